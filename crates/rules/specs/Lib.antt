@@ -1,0 +1,13 @@
+pub mod Lists
+pub mod Quantities
+pub mod Entries
+pub mod Text
+pub mod Tables
+pub mod Refusals
+pub mod Placements
+pub mod Net
+pub mod Slack
+pub mod Pairs
+pub mod Answers
+pub mod Promises
+pub mod Refused
