@@ -9,3 +9,4 @@ pub mod Moves
 pub mod Method
 pub mod Bounds
 pub mod Ranges
+pub mod Listing
