@@ -10,3 +10,6 @@ pub mod Method
 pub mod Bounds
 pub mod Ranges
 pub mod Listing
+pub mod Figures
+pub mod Settled
+pub mod Examples
