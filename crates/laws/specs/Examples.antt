@@ -1,6 +1,6 @@
 -- The paper's examples P1 to P11, and those of its thinning that goes wrong, as one table of statements with one proof. Nets are read
 -- from their texts. Assumes nothing.
-use mathlib.Core.Path.{_≡_, refl, sym, ap, _∙_}
+use mathlib.Core.Path.{_≡_, refl, sym, ap, subst, _∙_}
 use mathlib.Core.List.{List, [], _∷_, map}
 use mathlib.Core.Logic.{_⊎_, inl, inr}
 use mathlib.Core.Option.{Option, none, some}
@@ -56,14 +56,23 @@ pub record IsList (net : String) (row : ℕ) (list : List Pair) : Type 0 where
   pub tree-is : atRow (rowsOf (entries net)) row ≡ some tree
   pub unbeaten : Unbeaten (Reached (typesOf (entries net)) tree) list
 
-abbrev pub _,,_ : ℕ → ℤ → Pair
-load ,, time = record { load = load; time = time }
+abbrev pub paired : ℕ × ℕ → Pair
+paired c = record { load = c .0; time = pos (c .1) }
+
+-- one of l and one of m beside each other: loads add, and the lesser time counts
+pub record Meets (l m : List Pair) (c : Pair) : Type 0 where
+  pub left : Pair
+  pub right : Pair
+  pub left-in : Any (λ x. x ≡ left) l
+  pub right-in : Any (λ x. x ≡ right) m
+  pub load : c .load ≡ left .load + right .load
+  pub time : Least (c .time) (left .time ∷ right .time ∷ [])
 
 -- ---- how one is proved
 -- the figures of the first greatest of a list behind a driver
 unfoldable pub top : ℕ → List (Cand Placement) → Option Pair
 top driver [] = none
-top driver (x ∷ l) = some (best (λ m. driver * m) x l .load ,, value (λ m. driver * m) (best (λ m. driver * m) x l))
+top driver (x ∷ l) = some (record { load = best (λ m. driver * m) x l .load; time = value (λ m. driver * m) (best (λ m. driver * m) x l) })
 
 module _ (types : List Repeater) (driver : ℕ) (t : Tree) where
   -- a placement as good as a planned one is planned
@@ -72,3 +81,43 @@ module _ (types : List Repeater) (driver : ℕ) (t : Tree) where
 
   slack-by : (p : Placement) (slack : ℤ) → timeOf types p t ⊖ (driver * loadOf types p t) ≡ slack → IsSlack types p driver t slack
   slack-by p slack e = rw e at (slack-is types p driver t)
+
+  plan-top : (p : Placement) (l : List (Cand Placement)) (c : Pair) → Front (Reaches types t) l → top driver l ≡ some c → Legal types t p → timeOf types p t ⊖ (driver * loadOf types p t) ≡ c .time → c .load ≡ loadOf types p t → Planned types driver t p (c .time) (c .load)
+  unfolding top
+  plan-top p [] c F e legal s k = absurd (let z : _≡_ {A = ℕ} 0 1 = cc in omega arith)
+  plan-top p (x ∷ l) c F e legal s k =
+      let r : _≡_ {A = Pair} (record { load = best (λ m. driver * m) x l .load; time = value (λ m. driver * m) (best (λ m. driver * m) x l) }) c = cc in
+      as-planned p (subst (λ (d : Pair). Planned types driver t (best (λ m. driver * m) x l .place) (d .time) (d .load)) r (planned types driver t F)) legal (slack-by p (c .time) s) k
+
+  -- what the method finds is planned
+  pub plan-by : (p : Placement) (c : Pair) → Proper t → top driver (frontOf types t) ≡ some c → Legal types t p → timeOf types p t ⊖ (driver * loadOf types p t) ≡ c .time → c .load ≡ loadOf types p t → Planned types driver t p (c .time) (c .load)
+  plan-by p c ok = plan-top p (frontOf types t) c (method types t ok)
+
+  -- what the method lists is the list
+  pub list-by : (l : List Pair) → Proper t → map pairOf (frontOf types t) ≡ l → Unbeaten (Reached types t) l
+  list-by l ok e = rw e at (listed types t ok)
+
+-- ---- the nets
+abbrev pub netA : String
+netA = "T\t2\t3\t10\nD\t20\nW\t0\t4\t5\t1\nS\t1\t6\t7\t0\t8\t1000\n"
+
+unfoldable pub types-A : List Repeater
+types-A = record { input = 2; resistance = 3; own = 10 } ∷ []
+
+unfoldable pub under-A : Tree
+under-A = site 0 (wire (record { resistance = 6; capacitance = 7 }) (sink 8 (pos 1000)))
+
+unfoldable pub tree-A : Tree
+tree-A = wire (record { resistance = 4; capacitance = 5 }) under-A
+
+pub A-read : entries netA ≡ Entry.type 2 3 10 ∷ Entry.driver 20 ∷ Entry.point 0 4 5 1 ∷ Entry.sink 1 6 7 0 8 (pos 1000) ∷ []
+unfolding bytes textEntries linesOf lineOf lettered typeLine driverLine pointLine sinkLine parted number digits signed
+A-read = refl
+
+A-tree : atRow (rowsOf (entries netA)) 0 ≡ some tree-A
+unfolding bytes textEntries linesOf lineOf lettered typeLine driverLine pointLine sinkLine parted number digits signed typesOf rowsOf rowOf wireOf hangs at atRow tree-A under-A
+A-tree = refl
+
+A-top : top 20 (frontOf types-A tree-A) ≡ some (paired (7, 687))
+unfolding types-A tree-A under-A top pinned typeOf repeaterDelay wireDelay frontOf siteStep typeStep wireStep climb climbed behind buffered value best pick thinIn put stand standBy decLe ≤-or-< hi lo _⊖_
+A-top = refl

@@ -1,22 +1,26 @@
 -- From the method's candidates to the paper's pairs: the list at a row is the unbeaten pairs that legal placements reach there, in one
 -- order, and no longer than one and one for each type at each site at or below. Assumes nothing.
-use mathlib.Core.Path.{_≡_, refl, sym, ap, _∙_}
+use mathlib.Core.Path.{_≡_, refl, sym, ap, subst, _∙_}
 use mathlib.Core.List.{List, [], _∷_, map}
+use mathlib.Core.Logic.{⊎-elim}
 use Prim.Native.Nat.{ℕ, _+_, _*_, _≤_}
+use native.Mathlib.Nat.{le-refl}
 use lib.IntN.{ℤ}
 use lib.ListN.{length, length-map}
 use lib.Signed.{_≤ℤ_, _<ℤ_}
-use Rattle.rules.specs.Lists.{All, Any, Pairwise, nil, cons, here, there}
+use Rattle.rules.specs.Lists.{All, Any, Pairwise, Least, nil, cons, here, there}
 use Rattle.rules.specs.Entries.{Repeater}
 use Rattle.rules.specs.Placements.{Placement}
 use Rattle.rules.specs.Net.{Tree}
 use Rattle.rules.specs.Slack.{slacks}
 use Rattle.rules.specs.Pairs.{Pair, NoWorse, Beats, Unbeaten, Legal, PairOf, Reached, sitesOn}
 use Rattle.rules.specs.Pairs.{Below as PairBelow}
-use Rattle.laws.specs.Lists.{all-head, all-tail, all-map, any-map}
+use Rattle.laws.specs.Lists.{all-head, all-tail, all-map, any-map, all-self, any-imp}
 use Rattle.laws.specs.Candidates.{Cand, Covers, Below, Same, Front, pair, front-unique, front-unbeaten, unbeaten-front}
 use Rattle.laws.specs.Candidates.{Beats as CandBeats}
 use Rattle.laws.specs.Candidates.{Unbeaten as CandUnbeaten}
+use Rattle.laws.specs.Integers.{≤-refl, minℤ, Lesser, min-lesser}
+use Rattle.laws.specs.Steps.{joined, Joins, merge, front-merge}
 use Rattle.laws.specs.Trees.{least-unique, time-is}
 use Rattle.laws.specs.Method.{Proper, Reaches, candOf, reaches, frontOf, method}
 use Rattle.laws.specs.Bounds.{reached-length}
@@ -33,6 +37,15 @@ pairwise-map : {A B : Type 0} {R : A → A → Type 0} {S : B → B → Type 0} 
 pairwise-map f g nil = nil
 pairwise-map f g (cons {x = x} h t) = cons (all-map f (g x) h) (pairwise-map f g t)
 
+-- the pairs of a front of Q are the unbeaten pairs of R, where R is the pairs of Q's candidates
+pub pairs-front : {W : Type 0} {Q : Cand W → Type 0} {R : Pair → Type 0} {l : List (Cand W)} → ((c : Cand W) → Q c → R (pairOf c)) → ((c : Pair) → R c → (d : Cand W) × Q d × (pairOf d ≡ c)) → Front Q l → Unbeaten R (map pairOf l)
+unfolding pairOf
+pairs-front {R = R} {l} up down F = record {
+  rising = pairwise-map pairOf (λ a b h. record { load = h .light; time = h .early }) (F .rising);
+  reached = all-map pairOf up (F .sound);
+  whole = λ c r. let (d, q, e) = down c r in subst (λ (c : Pair). Any (λ m. NoWorse m c) (map pairOf l)) e (any-map pairOf (λ m k. record { load = k .light; time = k .late }) (F .whole d q));
+}
+
 module _ (types : List Repeater) (t : Tree) where
   reached-by : (c : Cand Placement) → Reaches types t c → Reached types t (pairOf c)
   unfolding pairOf
@@ -41,16 +54,12 @@ module _ (types : List Repeater) (t : Tree) where
   -- a front's pairs are the unbeaten pairs
   pub front-pairs : {l : List (Cand Placement)} → Front (Reaches types t) l → Unbeaten (Reached types t) (map pairOf l)
   unfolding pairOf candOf
-  front-pairs {l} F = record {
-    rising = pairwise-map pairOf (λ a b h. record { load = h .light; time = h .early }) (F .rising);
-    reached = all-map pairOf reached-by (F .sound);
-    whole = whole;
-  }
+  front-pairs F = pairs-front reached-by down F
     where
-      whole : (c : Pair) → Reached types t c → Any (λ m. NoWorse m c) (map pairOf l)
-      whole c (p, legal, is) =
-          let e = least-unique (is .time) (time-is types p t) in
-          any-map pairOf (λ m k. record { load = rw (is .load) (k .light); time = rw e (k .late) }) (F .whole (candOf types t p) (reaches types legal))
+      down : (c : Pair) → Reached types t c → (d : Cand Placement) × Reaches types t d × (pairOf d ≡ c)
+      down c (p, legal, is) =
+          let e = least-unique (time-is types p t) (is .time) in
+          (candOf types t p, reaches types legal, λ i. record { load = sym (is .load) i; time = e i })
 
 back : ℕ × ℤ → Pair
 back c = record { load = c .0; time = c .1 }
@@ -117,3 +126,43 @@ module _ (types : List Repeater) (t : Tree) (ok : Proper t) where
   -- its length is at most one and one for each type at each site at or below
   pub listed-length : (l : List Pair) → Unbeaten (Reached types t) l → length l ≤ 1 + length types * sitesOn t
   listed-length l u = rw (unbeaten-unique u listed, length-map (frontOf types t) pairOf) (reached-length types t (frontOf types t) ok (method types t ok))
+
+-- ---- two lists meeting at a branch
+-- one of l and one of m beside each other: loads add, and the lesser time counts
+pub record Meets (l m : List Pair) (c : Pair) : Type 0 where
+  pub left : Pair
+  pub right : Pair
+  pub left-in : Any (λ x. x ≡ left) l
+  pub right-in : Any (λ x. x ≡ right) m
+  pub load : c .load ≡ left .load + right .load
+  pub time : Least (c .time) (left .time ∷ right .time ∷ [])
+
+no-worse : {a b : Pair} → a ≡ b → NoWorse a b
+no-worse {a} {b} e = rw e (record { load = le-refl _; time = ≤-refl _ })
+
+-- a rising list is the unbeaten ones of its own pairs
+rising-unbeaten : {l : List Pair} → Pairwise PairBelow l → Unbeaten (λ c. Any (λ x. x ≡ c) l) l
+rising-unbeaten {l} r = record { rising = r; reached = all-self l; whole = λ c h. any-imp (λ m e. no-worse e) h }
+
+-- the branch's list
+unfoldable pub meeting : (l m : List Pair) → List Pair
+meeting l m = map pairOf (merge (λ a b. tt) (map lone l) (map lone m))
+
+lesser-least : {a b m : ℤ} → Lesser a b m → Least m (a ∷ b ∷ [])
+lesser-least h = record { below = cons (h .left) (cons (h .right) nil); among = ⊎-elim here (λ e. there (here e)) (h .one) }
+
+-- it is the unbeaten ones of all the pairs that meet
+pub meeting-unbeaten : {l m : List Pair} → Pairwise PairBelow l → Pairwise PairBelow m → Unbeaten (Meets l m) (meeting l m)
+unfolding meeting pairOf lone joined
+meeting-unbeaten {l} {m} r s = pairs-front up down (front-merge (λ a b. tt) (front-lone (rising-unbeaten r)) (front-lone (rising-unbeaten s)))
+  where
+    Of : List Pair → Cand (Unit {0}) → Type 0
+    Of k c = Any (λ x. x ≡ pairOf c) k
+
+    up : (c : Cand (Unit {0})) → Joins (λ a b. tt) (Of l) (Of m) c → Meets l m (pairOf c)
+    up c (a, b, p, q, e) = record { left = pairOf a; right = pairOf b; left-in = p; right-in = q; load = ap (λ x. x .load) e; time = rw e (lesser-least (min-lesser (a .time) (b .time))) }
+
+    down : (c : Pair) → Meets l m c → (d : Cand (Unit {0})) × Joins (λ a b. tt) (Of l) (Of m) d × (pairOf d ≡ c)
+    down c h =
+        let e = least-unique (lesser-least (min-lesser (h .left .time) (h .right .time))) (h .time) in
+        (joined (λ a b. tt) (lone (h .left)) (lone (h .right)), (lone (h .left), lone (h .right), h .left-in, h .right-in, refl), λ i. record { load = sym (h .load) i; time = e i })
