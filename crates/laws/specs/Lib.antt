@@ -13,3 +13,5 @@ pub mod Listing
 pub mod Figures
 pub mod Settled
 pub mod Examples
+pub mod Given
+pub mod StandIns

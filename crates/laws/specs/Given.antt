@@ -1,0 +1,79 @@
+-- What a promise says where nothing is refused, and nets lent as tables: a net's entries, as its text states them, written into blank
+-- tables of full room. Assumes nothing.
+use mathlib.Core.Path.{_≡_, refl, sym, ap, _∙_}
+use mathlib.Core.Bool.{Bool, true, false, cond, _||_}
+use mathlib.Core.List.{List, [], _∷_, _++_, map}
+use mathlib.Core.Option.{Option, none, some}
+use Prim.Native.Nat.{ℕ, _+_, _*_, _≤_, _<_}
+use Prim.Native.String.{String}
+use lib.Dec.{leb, ltb}
+use lib.IntN.{ℤ, pos}
+use lib.ListN.{length, drop, replicate}
+use Rattle.rules.specs.declared.Refusal.{Refusal}
+use Rattle.rules.specs.declared.Planning.{Planning}
+use Rattle.rules.specs.declared.Listing.{Listing}
+use Rattle.rules.specs.declared.Slacking.{Slacking}
+use Rattle.rules.specs.Lists.{written, orElse, when}
+use Rattle.rules.specs.Quantities.{typesRoom, rowsRoom}
+use Rattle.rules.specs.Entries.{Entry, typesOf, rowsOf, rowOf, sitesOf}
+use Rattle.rules.specs.Text.{textEntries, linesOf, lineOf, lettered, typeLine, driverLine, pointLine, sinkLine, parted, number, digits, signed}
+use Rattle.rules.specs.Tables.{Tables, Counts, typeWords, rowWords, shortTables, tableEntries, counted, from, rowEntry, rowBy, typeEntry}
+use Rattle.rules.specs.Refusals.{refusalOf, firstRefusal, lineRefusal, lastRefusal, misplaced, outOfRange, tooMany, orphan, noParent, childless, lineOfRow}
+use Rattle.rules.specs.Refused.{bytes, entries}
+use Rattle.rules.specs.Answers.{Timing, noTiming, refused, done, slackFigures, planFigures, listFigures}
+use Rattle.rules.specs.Placements.{marks, markIn, marksFrom, markRefusal, placementRefusal}
+use Rattle.rules.specs.Promises.{readRefusal, typeTable, rowTable, dueTable, filled, tablesRefusal, slackRefusal, SlackPromise, TimingOf, Storage, PlanPromise, shortPlacement, PlanOf, Lent, shortLent, listRefusal, ListPromise, ListOf}
+use Rattle.laws.specs.Examples.{netA, netA-strong, netB}
+
+-- ---- tables
+unfoldable pub blank : Tables
+blank = record { types = replicate (typeWords * typesRoom) 0; rows = replicate (rowWords * rowsRoom) 0; due = replicate rowsRoom (pos 0) }
+
+-- a net's entries in blank tables, and how many there are
+unfoldable pub tablesIn : String → Tables
+tablesIn net = filled (entries net) blank
+
+unfoldable pub countsIn : String → Counts
+countsIn net = record { types = length (typesOf (entries net)); rows = length (rowsOf (entries net)) }
+
+-- nothing of such tables is refused, and they have the net's entries
+pub record Lends (net : String) : Type 0 where
+  pub whole : tableEntries (tablesIn net) (countsIn net) ≡ entries net
+  pub taken : tablesRefusal false (tablesIn net) (countsIn net) ≡ none
+
+pub lends-A : Lends netA
+unfolding tablesIn countsIn blank filled written typeTable rowTable dueTable tableEntries counted from rowEntry rowBy typeEntry tablesRefusal shortTables bytes textEntries linesOf lineOf lettered typeLine driverLine pointLine sinkLine parted number digits signed typesOf rowsOf rowOf refusalOf firstRefusal lineRefusal lastRefusal misplaced outOfRange tooMany sitesOf orphan noParent childless lineOfRow
+lends-A = record { whole = refl; taken = refl }
+
+pub lends-A-strong : Lends netA-strong
+unfolding tablesIn countsIn blank filled written typeTable rowTable dueTable tableEntries counted from rowEntry rowBy typeEntry tablesRefusal shortTables bytes textEntries linesOf lineOf lettered typeLine driverLine pointLine sinkLine parted number digits signed typesOf rowsOf rowOf refusalOf firstRefusal lineRefusal lastRefusal misplaced outOfRange tooMany sitesOf orphan noParent childless lineOfRow
+lends-A-strong = record { whole = refl; taken = refl }
+
+pub lends-B : Lends netB
+unfolding tablesIn countsIn blank filled written typeTable rowTable dueTable tableEntries counted from rowEntry rowBy typeEntry tablesRefusal shortTables bytes textEntries linesOf lineOf lettered typeLine driverLine pointLine sinkLine parted number digits signed typesOf rowsOf rowOf refusalOf firstRefusal lineRefusal lastRefusal misplaced outOfRange tooMany sitesOf orphan noParent childless lineOfRow
+lends-B = record { whole = refl; taken = refl }
+
+-- net A's text is read, and a placement without repeaters is taken
+pub text-A : readRefusal (bytes netA) blank ≡ none
+unfolding tablesIn countsIn blank filled written typeTable rowTable dueTable tableEntries counted from rowEntry rowBy typeEntry tablesRefusal shortTables bytes textEntries linesOf lineOf lettered typeLine driverLine pointLine sinkLine parted number digits signed typesOf rowsOf rowOf refusalOf firstRefusal lineRefusal lastRefusal misplaced outOfRange tooMany sitesOf orphan noParent childless lineOfRow readRefusal
+text-A = refl
+
+pub none-A : slackRefusal (tablesIn netA) (countsIn netA) (0 ∷ 0 ∷ 0 ∷ 0 ∷ []) ≡ none
+unfolding tablesIn countsIn blank filled written typeTable rowTable dueTable tableEntries counted from rowEntry rowBy typeEntry tablesRefusal shortTables bytes textEntries linesOf lineOf lettered typeLine driverLine pointLine sinkLine parted number digits signed typesOf rowsOf rowOf refusalOf firstRefusal lineRefusal lastRefusal misplaced outOfRange tooMany sitesOf orphan noParent childless lineOfRow slackRefusal placementRefusal marksFrom markRefusal marks markIn
+none-A = refl
+
+-- ---- what is granted where nothing is refused
+module _ {net : String} (lends : Lends net) where
+  -- the placement's marks are legal too
+  pub slack-granted : (words : List ℕ) (a : Slacking) → slackRefusal (tablesIn net) (countsIn net) words ≡ none → SlackPromise (tablesIn net) (countsIn net) words a → (v : Timing) × (slackFigures a ≡ done v) × TimingOf (entries net) words v
+  unfolding SlackPromise
+  slack-granted words a e p = rw (lends .whole) at (rw e at p)
+
+  module _ {W : Type 0} (s : Storage W) (work : W) (room : s .short work ≡ false) where
+    pub plan-granted : (before : List ℕ) (a : Planning) (after : List ℕ) (work′ : W) → shortPlacement before ≡ false → PlanPromise s (tablesIn net) (countsIn net) before work a after work′ → (v : Timing) × (planFigures a ≡ done v) × PlanOf (entries net) before after v × (work′ ≡ s .cleared work)
+    unfolding PlanPromise
+    plan-granted before a after work′ e p = rw (lends .whole) at (rw (e, room, lends .taken) at p)
+
+    pub list-granted : (row : ℕ) (before : Lent) (a : Listing) (after : Lent) (work′ : W) → shortLent before ≡ false → leb (countsIn net .rows) row ≡ false → ListPromise s (tablesIn net) (countsIn net) row before work a after work′ → (len : ℕ) × (listFigures a ≡ done len) × ListOf (entries net) row before after len × (work′ ≡ s .cleared work)
+    unfolding ListPromise listRefusal
+    list-granted row before a after work′ e h p = rw (lends .whole) at (rw (e, room, lends .taken, h) at p)
