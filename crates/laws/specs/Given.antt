@@ -62,18 +62,31 @@ pub none-A : slackRefusal (tablesIn netA) (countsIn netA) (0 ∷ 0 ∷ 0 ∷ 0 �
 unfolding tablesIn countsIn blank filled written typeTable rowTable dueTable tableEntries counted from rowEntry rowBy typeEntry tablesRefusal shortTables bytes textEntries linesOf lineOf lettered typeLine driverLine pointLine sinkLine parted number digits signed typesOf rowsOf rowOf refusalOf firstRefusal lineRefusal lastRefusal misplaced outOfRange tooMany sitesOf orphan noParent childless lineOfRow slackRefusal placementRefusal marksFrom markRefusal marks markIn
 none-A = refl
 
--- ---- what is granted where nothing is refused
-module _ {net : String} (lends : Lends net) where
-  -- the placement's marks are legal too
-  pub slack-granted : (words : List ℕ) (a : Slacking) → slackRefusal (tablesIn net) (countsIn net) words ≡ none → SlackPromise (tablesIn net) (countsIn net) words a → (v : Timing) × (slackFigures a ≡ done v) × TimingOf (entries net) words v
+-- ---- what a promise says of a success
+-- a success has one value
+pub done-same : {A : Type 0} (v w : A) → done v ≡ done w → v ≡ w
+unfolding done
+done-same v w e = ap (λ f. f .values) e
+
+module _ (t : Tables) (n : Counts) where
+  pub slack-given : (words : List ℕ) (a : Slacking) → slackRefusal t n words ≡ none → SlackPromise t n words a → (v : Timing) × (slackFigures a ≡ done v) × TimingOf (tableEntries t n) words v
   unfolding SlackPromise
-  slack-granted words a e p = rw (lends .whole) at (rw e at p)
+  slack-given words a e p = rw e at p
 
-  module _ {W : Type 0} (s : Storage W) (work : W) (room : s .short work ≡ false) where
-    pub plan-granted : (before : List ℕ) (a : Planning) (after : List ℕ) (work′ : W) → shortPlacement before ≡ false → PlanPromise s (tablesIn net) (countsIn net) before work a after work′ → (v : Timing) × (planFigures a ≡ done v) × PlanOf (entries net) before after v × (work′ ≡ s .cleared work)
+  module _ {W : Type 0} (s : Storage W) (work : W) where
+    pub plan-given : (before : List ℕ) (a : Planning) (after : List ℕ) (work′ : W) → tablesRefusal (shortPlacement before || s .short work) t n ≡ none → PlanPromise s t n before work a after work′ → (v : Timing) × (planFigures a ≡ done v) × PlanOf (tableEntries t n) before after v × (work′ ≡ s .cleared work)
     unfolding PlanPromise
-    plan-granted before a after work′ e p = rw (lends .whole) at (rw (e, room, lends .taken) at p)
+    plan-given before a after work′ e p = rw e at p
 
-    pub list-granted : (row : ℕ) (before : Lent) (a : Listing) (after : Lent) (work′ : W) → shortLent before ≡ false → leb (countsIn net .rows) row ≡ false → ListPromise s (tablesIn net) (countsIn net) row before work a after work′ → (len : ℕ) × (listFigures a ≡ done len) × ListOf (entries net) row before after len × (work′ ≡ s .cleared work)
-    unfolding ListPromise listRefusal
-    list-granted row before a after work′ e h p = rw (lends .whole) at (rw (e, room, lends .taken, h) at p)
+    pub list-given : (row : ℕ) (before : Lent) (a : Listing) (after : Lent) (work′ : W) → listRefusal (shortLent before || s .short work) t n row ≡ none → ListPromise s t n row before work a after work′ → (len : ℕ) × (listFigures a ≡ done len) × ListOf (tableEntries t n) row before after len × (work′ ≡ s .cleared work)
+    unfolding ListPromise
+    list-given row before a after work′ e p = rw e at p
+
+-- ---- of a net lent as tables, with room enough, nothing is refused
+module _ {net : String} (lends : Lends net) {W : Type 0} (s : Storage W) (work : W) (room : s .short work ≡ false) where
+  pub plan-taken : (before : List ℕ) → shortPlacement before ≡ false → tablesRefusal (shortPlacement before || s .short work) (tablesIn net) (countsIn net) ≡ none
+  plan-taken before e = rw (e, room) (lends .taken)
+
+  pub list-taken : (row : ℕ) (before : Lent) → shortLent before ≡ false → leb (countsIn net .rows) row ≡ false → listRefusal (shortLent before || s .short work) (tablesIn net) (countsIn net) row ≡ none
+  unfolding listRefusal
+  list-taken row before e h = rw (e, room, lends .taken, h)

@@ -48,7 +48,8 @@ unfolding CheckPromise
 check-settled t n a b = either (tablesRefusal false t n) (λ r p q. check-figures a b (p ∙ sym q)) (λ p q. check-figures a b (p ∙ sym q))
 
 -- ---- slack_of
-one-tree : {s t : Tree} {o : Option Tree} → o ≡ some s → o ≡ some t → s ≡ t
+-- a row has one tree
+pub one-tree : {s t : Tree} {o : Option Tree} → o ≡ some s → o ≡ some t → s ≡ t
 one-tree p q = cc
 
 -- a placement has one slack
