@@ -15,15 +15,16 @@ use Rattle.rules.specs.declared.Listing.{Listing}
 use Rattle.rules.specs.declared.Slacking.{Slacking}
 use Rattle.rules.specs.Lists.{written, orElse, when}
 use Rattle.rules.specs.Quantities.{typesRoom, rowsRoom}
-use Rattle.rules.specs.Entries.{Entry, typesOf, rowsOf, rowOf, sitesOf}
+use Rattle.rules.specs.Entries.{Entry, Repeater, typesOf, rowsOf, rowOf, sitesOf}
 use Rattle.rules.specs.Text.{textEntries, linesOf, lineOf, lettered, typeLine, driverLine, pointLine, sinkLine, parted, number, digits, signed}
 use Rattle.rules.specs.Tables.{Tables, Counts, typeWords, rowWords, shortTables, tableEntries, counted, from, rowEntry, rowBy, typeEntry}
 use Rattle.rules.specs.Refusals.{refusalOf, firstRefusal, lineRefusal, lastRefusal, misplaced, outOfRange, tooMany, orphan, noParent, childless, lineOfRow}
 use Rattle.rules.specs.Refused.{bytes, entries}
 use Rattle.rules.specs.Answers.{Timing, noTiming, refused, done, slackFigures, planFigures, listFigures}
+use Rattle.rules.specs.Net.{Tree, wireOf, hangs, at, atRow, driverOhms}
 use Rattle.rules.specs.Placements.{marks, markIn, marksFrom, markRefusal, placementRefusal}
 use Rattle.rules.specs.Promises.{readRefusal, typeTable, rowTable, dueTable, filled, tablesRefusal, slackRefusal, SlackPromise, TimingOf, Storage, PlanPromise, shortPlacement, PlanOf, Lent, shortLent, listRefusal, ListPromise, ListOf}
-use Rattle.laws.specs.Examples.{netA, netA-strong, netB}
+use Rattle.laws.specs.Examples.{netA, netA-strong, netB, typesBy, wireBy, A₀, A₁}
 
 -- ---- tables
 unfoldable pub blank : Tables
@@ -52,6 +53,20 @@ lends-A-strong = record { whole = refl; taken = refl }
 pub lends-B : Lends netB
 unfolding tablesIn countsIn blank filled written typeTable rowTable dueTable tableEntries counted from rowEntry rowBy typeEntry tablesRefusal shortTables bytes textEntries linesOf lineOf lettered typeLine driverLine pointLine sinkLine parted number digits signed typesOf rowsOf rowOf refusalOf firstRefusal lineRefusal lastRefusal misplaced outOfRange tooMany sitesOf orphan noParent childless lineOfRow
 lends-B = record { whole = refl; taken = refl }
+
+-- the types, the driver and the tree that a net's text states
+pub record States (net : String) (types : List Repeater) (driver : ℕ) (tree : Tree) : Type 0 where
+  pub types-are : typesOf (entries net) ≡ types
+  pub driver-is : driverOhms (rowsOf (entries net)) ≡ driver
+  pub tree-is : atRow (rowsOf (entries net)) 0 ≡ some tree
+
+pub states-A : States netA (typesBy 10) 20 A₀
+unfolding bytes textEntries linesOf lineOf lettered typeLine driverLine pointLine sinkLine parted number digits signed typesOf rowsOf rowOf wireOf hangs at atRow typesBy wireBy A₀ A₁
+states-A = record { types-are = refl; driver-is = refl; tree-is = refl }
+
+pub states-A-strong : States netA-strong (typesBy 10) 0 A₀
+unfolding bytes textEntries linesOf lineOf lettered typeLine driverLine pointLine sinkLine parted number digits signed typesOf rowsOf rowOf wireOf hangs at atRow typesBy wireBy A₀ A₁
+states-A-strong = record { types-are = refl; driver-is = refl; tree-is = refl }
 
 -- net A's text is read, and a placement without repeaters is taken
 pub text-A : readRefusal (bytes netA) blank ≡ none

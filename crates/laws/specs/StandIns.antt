@@ -35,7 +35,7 @@ use Rattle.rules.specs.Entries.{Entry, Repeater, typesOf, rowsOf}
 use Rattle.rules.specs.Placements.{Placement, marks, markIn}
 use Rattle.rules.specs.Tables.{Tables, Counts, tableEntries}
 use Rattle.rules.specs.Net.{Tree, atRow, driverOhms}
-use Rattle.rules.specs.Slack.{IsSlack}
+use Rattle.rules.specs.Slack.{seenLoad, IsSlack}
 use Rattle.rules.specs.Slack.{load as loadOf}
 use Rattle.rules.specs.Pairs.{Pair, Beats, Reached, Planned}
 use Rattle.rules.specs.Refusals.{numberOf}
@@ -44,8 +44,9 @@ use Rattle.rules.specs.Answers.{Figures, Timing, refused, done, noCounts, noTim
 use Rattle.rules.specs.Promises.{ReadPromise, readRefusal, CheckPromise, tablesRefusal, SlackPromise, slackRefusal, Storage, PlanPromise, shortPlacement, PlanOf, Lent, shortLent, ListPromise, ListOf}
 use Rattle.laws.specs.Listing.{unbeaten-unique}
 use Rattle.laws.specs.Settled.{one-tree, slack-unique, planned-unique}
-use Rattle.laws.specs.Examples.{netA, netA-strong, netB, IsPlanned, IsList, paired, examples}
-use Rattle.laws.specs.Given.{text-A, none-A, blank, tablesIn, countsIn, Lends, lends-A, lends-A-strong, lends-B, done-same, slack-given, plan-given, list-given, plan-taken, list-taken}
+use Rattle.laws.specs.Figures.{list-figures}
+use Rattle.laws.specs.Examples.{netA, netA-strong, netB, typesBy, wireBy, A₀, A₁, IsPlanned, IsList, paired, examples}
+use Rattle.laws.specs.Given.{text-A, none-A, blank, tablesIn, countsIn, Lends, lends-A, lends-A-strong, lends-B, States, states-A, states-A-strong, done-same, slack-given, plan-given, list-given, plan-taken, list-taken}
 
 -- ---- one that refuses everything
 not-zero : (r : Refusal) → ¬ (numberOf r ≡ 0)
@@ -71,19 +72,19 @@ pub checking-refused : (r : Refusal) → ¬ (CheckPromise (tablesIn netA) (count
 unfolding CheckPromise checkFigures
 checking-refused r p = refused-not-done tt tt r (rw (lends-A .taken) at p)
 
--- and so are a slack, a plan, and the list at each of its rows given
+-- and so are a slack, a plan, and the list at each row given; plans and lists of any net that is lent as tables
 pub slacking-refused : (r : Refusal) → ¬ (SlackPromise (tablesIn netA) (countsIn netA) (0 ∷ 0 ∷ 0 ∷ 0 ∷ []) (NoSlack r))
 unfolding slackFigures
 slacking-refused r p = let (v, e, f) = slack-given (tablesIn netA) (countsIn netA) (0 ∷ 0 ∷ 0 ∷ 0 ∷ []) (NoSlack r) none-A p in refused-not-done noTiming v r e
 
 module _ {W : Type 0} (s : Storage W) (work work′ : W) (room : s .short work ≡ false) where
-  pub planning-refused : (r : Refusal) (before after : List ℕ) → shortPlacement before ≡ false → ¬ (PlanPromise s (tablesIn netA) (countsIn netA) before work (NotPlanned r) after work′)
+  pub planning-refused : {net : String} → Lends net → (r : Refusal) (before after : List ℕ) → shortPlacement before ≡ false → ¬ (PlanPromise s (tablesIn net) (countsIn net) before work (NotPlanned r) after work′)
   unfolding planFigures
-  planning-refused r before after long p = let (v, e, f, w) = plan-given (tablesIn netA) (countsIn netA) s work before (NotPlanned r) after work′ (plan-taken lends-A s work room before long) p in refused-not-done noTiming v r e
+  planning-refused {net} lends r before after long p = let (v, e, f, w) = plan-given (tablesIn net) (countsIn net) s work before (NotPlanned r) after work′ (plan-taken lends s work room before long) p in refused-not-done noTiming v r e
 
-  pub listing-refused : (r : Refusal) (row : ℕ) (before after : Lent) → shortLent before ≡ false → leb (countsIn netA .rows) row ≡ false → ¬ (ListPromise s (tablesIn netA) (countsIn netA) row before work (NotListed r) after work′)
+  pub listing-refused : {net : String} → Lends net → (r : Refusal) (row : ℕ) (before after : Lent) → shortLent before ≡ false → leb (countsIn net .rows) row ≡ false → ¬ (ListPromise s (tablesIn net) (countsIn net) row before work (NotListed r) after work′)
   unfolding listFigures
-  listing-refused r row before after long inside p = let (v, e, f, w) = list-given (tablesIn netA) (countsIn netA) s work row before (NotListed r) after work′ (list-taken lends-A s work room row before long inside) p in refused-not-done 0 v r e
+  listing-refused {net} lends r row before after long inside p = let (v, e, f, w) = list-given (tablesIn net) (countsIn net) s work row before (NotListed r) after work′ (list-taken lends s work room row before long inside) p in refused-not-done 0 v r e
 
 -- ---- a slack the placement hasn't got
 pub slack-claimed : (t : Tables) (n : Counts) (words : List ℕ) (slack : Femtosecond) (load : Femtofarad) (tree : Tree) (other : ℤ) → slackRefusal t n words ≡ none → atRow (rowsOf (tableEntries t n)) 0 ≡ some tree → IsSlack (typesOf (tableEntries t n)) (marks words) (driverOhms (rowsOf (tableEntries t n))) tree other → SlackPromise t n words (Slack slack load) → ¬ (slack .0 ≡ other) → ⊥
@@ -112,3 +113,52 @@ module _ (t : Tables) (n : Counts) {W : Type 0} (s : Storage W) (work work′ : 
 
   pub plan-claimed : (slack : Femtosecond) (load : Femtofarad) (tree : Tree) (other : ℤ) → atRow (rowsOf (tableEntries t n)) 0 ≡ some tree → IsSlack (typesOf (tableEntries t n)) (marks after) (driverOhms (rowsOf (tableEntries t n))) tree other → PlanPromise s t n before work (Plan slack load) after work′ → ¬ (slack .0 ≡ other) → ⊥
   plan-claimed slack load tree other tree-is had p differ = differ (slack-unique _ (marks after) _ tree (plan-marks slack load tree tree-is p .slack-is) had)
+
+-- ---- one fixed placement; the net untouched
+module _ {net : String} {types : List Repeater} {driver : ℕ} {tree : Tree} (lends : Lends net) (states : States net types driver tree) where
+  stated : {p : Placement} {slack : ℤ} {load : ℕ} → IsPlanned net p slack load → Planned types driver tree p slack load
+  stated f = rw (← states .types-are, ← states .driver-is, ← one-tree (f .tree-is) (states .tree-is)) (f .planned)
+
+  module _ {W : Type 0} (s : Storage W) (work work′ : W) (room : s .short work ≡ false) (before after : List ℕ) (long : shortPlacement before ≡ false) where
+    planned-words : (a : Planning) → PlanPromise s (tablesIn net) (countsIn net) before work a after work′ → (v : Timing) × Planned types driver tree (marks after) (v .slack) (v .load)
+    planned-words (Plan slack load) p = (record { slack = slack .0; load = load .0 }, rw (← states .types-are, ← states .driver-is, ← lends .whole) (plan-marks (tablesIn net) (countsIn net) s work work′ before after (plan-taken lends s work room before long) slack load tree (rw (lends .whole) (states .tree-is)) p))
+    planned-words (NotPlanned r) p = absurd (planning-refused s work work′ room lends r before after long p)
+
+    -- the words handed back load the driver as the planned placement does
+    pub planned-load : {q : Placement} {slack : ℤ} {load : ℕ} (a : Planning) → IsPlanned net q slack load → PlanPromise s (tablesIn net) (countsIn net) before work a after work′ → load ≡ loadOf types (marks after) tree
+    planned-load {q} {slack} {load} a f p =
+        let (v, g) = planned-words a p in
+        ap (λ x. x .load) (planned-unique types driver tree q (marks after) (record { slack = slack; load = load }) v (stated f) g) ∙ g .load-is
+
+module _ {W : Type 0} (s : Storage W) (work work′ : W) (room : s .short work ≡ false) (before after : List ℕ) (long : shortPlacement before ≡ false) (a : Planning) (promise : PlanPromise s (tablesIn netA) (countsIn netA) before work a after work′) where
+  -- on net A the four words are not left without a repeater
+  pub untouched : marks after 0 ≡ 0 → ⊥
+  unfolding typesBy wireBy A₀ A₁ loadOf seenLoad
+  untouched z =
+      let e : 7 ≡ loadOf (typesBy 10) (marks after) A₀ = planned-load lends-A states-A s work work′ room before after long a (examples .P2) promise in
+      let f : _≡_ {A = ℕ} 7 20 = rw z at e in
+      omega arith
+
+  -- and they are not those of net A with `D 0`: no one placement does for both
+  pub fixed-placement : (work″ : W) (before′ after′ : List ℕ) (b : Planning) → shortPlacement before′ ≡ false → PlanPromise s (tablesIn netA-strong) (countsIn netA-strong) before′ work b after′ work″ → take placementRoom after ≡ take placementRoom after′ → ⊥
+  unfolding marks
+  fixed-placement work″ before′ after′ b long′ promise′ same =
+      let e : 7 ≡ loadOf (typesBy 10) (marks after) A₀ = planned-load lends-A states-A s work work′ room before after long a (examples .P2) promise in
+      let f : 20 ≡ loadOf (typesBy 10) (marks after′) A₀ = planned-load lends-A-strong states-A-strong s work work″ room before′ after′ long′ b (examples .P5) promise′ in
+      let m : marks after ≡ marks after′ = λ i j. markIn (getD (same i) (j / 16) 0) (j % 16) in
+      let g : _≡_ {A = ℕ} 7 20 = e ∙ ap (λ p. loadOf (typesBy 10) p A₀) m ∙ sym f in
+      omega arith
+
+-- ---- only the best pair, an empty list, an invented length
+module _ {net : String} (lends : Lends net) {W : Type 0} (s : Storage W) (work work′ : W) (room : s .short work ≡ false) (row : ℕ) (inside : leb (countsIn net .rows) row ≡ false) (before after : Lent) (long : shortLent before ≡ false) where
+  -- the list handed out is the row's, and nothing else
+  pub listed-exactly : (l : List Pair) (a : Listing) → IsList net row l → ListPromise s (tablesIn net) (countsIn net) row before work a after work′ → (a ≡ Listed (length l)) × (after .loads ≡ written (map (λ c. c .load) l) (before .loads)) × (after .times ≡ written (map (λ c. c .time) l) (before .times))
+  unfolding listFigures
+  listed-exactly l a f p =
+      let (len, e, g, w) = list-given (tablesIn net) (countsIn net) s work row before a after work′ (list-taken lends s work room row before long inside) p in
+      of len e (rw (lends .whole) at g)
+    where
+      of : (len : ℕ) → listFigures a ≡ done len → ListOf (entries net) row before after len → (a ≡ Listed (length l)) × (after .loads ≡ written (map (λ c. c .load) l) (before .loads)) × (after .times ≡ written (map (λ c. c .time) l) (before .times))
+      of len e g =
+          let same : g .list ≡ l = unbeaten-unique (rw (one-tree (g .tree-is) (f .tree-is)) at (g .unbeaten)) (f .unbeaten) in
+          (list-figures a (Listed (length l)) (e ∙ ap done (g .long ∙ ap length same)), rw (← same) (g .loads), rw (← same) (g .times))
