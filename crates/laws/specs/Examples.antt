@@ -211,8 +211,8 @@ pub record Examples : Type 0 where
   pub wire-beaten : Beats (paired (9, 912)) (paired (15, 910))
   pub wire-thinned : Unbeaten (Reached (typesBy 10) (wire (wireBy 6 7) B₂)) (paired (9, 912) ∷ [])
 
--- a figure for a figure
-beats-by : (a b c d : ℕ) → a ≤ c → d ≤ b → ¬ (a + d ≡ c + b) → Beats (paired (a, b)) (paired (c, d))
+-- of two pairs of figures, the first no more load and no less time and not both the same
+pub beats-by : (a b c d : ℕ) → a ≤ c → d ≤ b → ¬ (a + d ≡ c + b) → Beats (paired (a, b)) (paired (c, d))
 unfolding hi lo
 beats-by a b c d h k n = record {
   noWorse = record { load = h; time = omega times };

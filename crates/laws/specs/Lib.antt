@@ -15,3 +15,4 @@ pub mod Settled
 pub mod Examples
 pub mod Given
 pub mod StandIns
+pub mod StandInLists

@@ -148,17 +148,3 @@ module _ {W : Type 0} (s : Storage W) (work work′ : W) (room : s .short work �
       let m : marks after ≡ marks after′ = λ i j. markIn (getD (same i) (j / 16) 0) (j % 16) in
       let g : _≡_ {A = ℕ} 7 20 = e ∙ ap (λ p. loadOf (typesBy 10) p A₀) m ∙ sym f in
       omega arith
-
--- ---- only the best pair, an empty list, an invented length
-module _ {net : String} (lends : Lends net) {W : Type 0} (s : Storage W) (work work′ : W) (room : s .short work ≡ false) (row : ℕ) (inside : leb (countsIn net .rows) row ≡ false) (before after : Lent) (long : shortLent before ≡ false) where
-  -- the list handed out is the row's, and nothing else
-  pub listed-exactly : (l : List Pair) (a : Listing) → IsList net row l → ListPromise s (tablesIn net) (countsIn net) row before work a after work′ → (a ≡ Listed (length l)) × (after .loads ≡ written (map (λ c. c .load) l) (before .loads)) × (after .times ≡ written (map (λ c. c .time) l) (before .times))
-  unfolding listFigures
-  listed-exactly l a f p =
-      let (len, e, g, w) = list-given (tablesIn net) (countsIn net) s work row before a after work′ (list-taken lends s work room row before long inside) p in
-      of len e (rw (lends .whole) at g)
-    where
-      of : (len : ℕ) → listFigures a ≡ done len → ListOf (entries net) row before after len → (a ≡ Listed (length l)) × (after .loads ≡ written (map (λ c. c .load) l) (before .loads)) × (after .times ≡ written (map (λ c. c .time) l) (before .times))
-      of len e g =
-          let same : g .list ≡ l = unbeaten-unique (rw (one-tree (g .tree-is) (f .tree-is)) at (g .unbeaten)) (f .unbeaten) in
-          (list-figures a (Listed (length l)) (e ∙ ap done (g .long ∙ ap length same)), rw (← same) (g .loads), rw (← same) (g .times))
