@@ -12,7 +12,7 @@ use lib.IntN.{ℤ, pos}
 use lib.ListN.{length, getD, length-map, List·getD-append, List·getD-map}
 use Rattle.rules.specs.declared.Listing.{Listing}
 use Rattle.rules.specs.declared.Listing.the-variants.{Listed}
-use Rattle.rules.specs.Lists.{All, Any, written, nil, cons}
+use Rattle.rules.specs.Lists.{All, Any, written, nil, cons, here, there}
 use Rattle.rules.specs.Entries.{Entry, typesOf, rowsOf, rowOf}
 use Rattle.rules.specs.Text.{textEntries, linesOf, lineOf, lettered, typeLine, driverLine, pointLine, sinkLine, parted, number, digits, signed}
 use Rattle.rules.specs.Tables.{Tables, Counts, tableEntries}
@@ -22,7 +22,7 @@ use Rattle.rules.specs.Refused.{bytes, entries}
 use Rattle.rules.specs.Answers.{done, listFigures}
 use Rattle.rules.specs.Promises.{Storage, Lent, shortLent, listRefusal, ListPromise, ListOf}
 use Rattle.laws.specs.Lists.{all-head}
-use Rattle.laws.specs.Listing.{NoneBeats, unbeaten-unique, listed-unbeaten}
+use Rattle.laws.specs.Listing.{NoneBeats, unbeaten-unique, listed-unbeaten, unbeaten-listed}
 use Rattle.laws.specs.Settled.{one-tree}
 use Rattle.laws.specs.Figures.{list-figures}
 use Rattle.laws.specs.Examples.{netA, netB, typesBy, wireBy, B₂, IsList, paired, beats-by, examples}
@@ -72,26 +72,34 @@ all-at d nil i h = absurd (omega arith)
 all-at d (cons p t) zero h = p
 all-at d (cons p t) (suc i) h = all-at d t i (omega arith)
 
+any-at : {A : Type 0} (d : A) {c : A} {l : List A} → Any (λ m. m ≡ c) l → (i : ℕ) × (i < length l) × (getD l i d ≡ c)
+any-at d (here e) = (0, omega arith, e)
+any-at d (there t) = let (i, h, e) = any-at d t in (suc i, omega arith, e)
+
 written-at : {A : Type 0} (f : Pair → A) (list : List Pair) (before after : List A) (i : ℕ) (d : Pair) → after ≡ written (map f list) before → i < length list → getD after i (f d) ≡ f (getD list i d)
 unfolding written
 written-at f list before after i d e h = ap (λ l. getD l i (f d)) e ∙ List·getD-append (map f list) _ (f d) i (omega (arith, length-map list f)) ∙ List·getD-map f list i d
 
-module _ (t : Tables) (n : Counts) {W : Type 0} (s : Storage W) (work work′ : W) (row : ℕ) (before after : Lent) (taken : listRefusal (shortLent before || s .short work) t n row ≡ none) where
-  -- at every row of every net, each pair handed out is reached and none that is reached beats it
-  pub handed-out : (len : ℕ) (tree : Tree) → atRow (rowsOf (tableEntries t n)) row ≡ some tree → ListPromise s t n row before work (Listed len) after work′ → (i : ℕ) → i < len → NoneBeats (Reached (typesOf (tableEntries t n)) tree) (pairAt after i)
+module _ (t : Tables) (n : Counts) {W : Type 0} (s : Storage W) (work work′ : W) (row : ℕ) (before after : Lent) (taken : listRefusal (shortLent before || s .short work) t n row ≡ none) (len : ℕ) (tree : Tree) (tree-is : atRow (rowsOf (tableEntries t n)) row ≡ some tree) (promise : ListPromise s t n row before work (Listed len) after work′) where
+  -- the unbeaten pairs stand in the areas
+  stand : (list : List Pair) × Unbeaten (Reached (typesOf (tableEntries t n)) tree) list × (len ≡ length list) × ((i : ℕ) → i < length list → pairAt after i ≡ getD list i (paired (0, 0)))
   unfolding listFigures pairAt
-  handed-out len tree tree-is p i h = let (m, e, f, w) = list-given t n s work row before (Listed len) after work′ taken p in of m (done-same len m e) f
+  stand = let (m, e, f, w) = list-given t n s work row before (Listed len) after work′ taken promise in (f .list, rw (one-tree (f .tree-is) tree-is) at (f .unbeaten), done-same len m e ∙ f .long, λ i h. of m f i h)
     where
-      of : (m : ℕ) → len ≡ m → ListOf (tableEntries t n) row before after m → NoneBeats (Reached (typesOf (tableEntries t n)) tree) (pairAt after i)
-      of m e f =
-          let inside : i < length (f .list) = omega (arith, f .long) in
-          let loads = written-at (λ c. c .load) (f .list) (before .loads) (after .loads) i (paired (0, 0)) (f .loads) inside in
-          let times = written-at (λ c. c .time) (f .list) (before .times) (after .times) i (paired (0, 0)) (f .times) inside in
-          rw (loads, times) (all-at (paired (0, 0)) (listed-unbeaten (rw (one-tree (f .tree-is) tree-is) at (f .unbeaten))) i inside)
+      of : (m : ℕ) (f : ListOf (tableEntries t n) row before after m) (i : ℕ) → i < length (f .list) → pairAt after i ≡ getD (f .list) i (paired (0, 0))
+      of m f i h = λ k. record { load = written-at (λ c. c .load) (f .list) (before .loads) (after .loads) i (paired (0, 0)) (f .loads) h k; time = written-at (λ c. c .time) (f .list) (before .times) (after .times) i (paired (0, 0)) (f .times) h k }
 
-  -- so none that only copies keeps the promise where it copies a beaten pair
-  pub copied : (len : ℕ) (tree : Tree) → atRow (rowsOf (tableEntries t n)) row ≡ some tree → ListPromise s t n row before work (Listed len) after work′ → (i : ℕ) → i < len → (d : Pair) → Reached (typesOf (tableEntries t n)) tree d → Beats d (pairAt after i) → ⊥
-  copied len tree tree-is p i h d = handed-out len tree tree-is p i h .none d
+  -- at every row of every net, each pair handed out is reached and none that is reached beats it
+  pub handed-out : (i : ℕ) → i < len → NoneBeats (Reached (typesOf (tableEntries t n)) tree) (pairAt after i)
+  handed-out i h = let (list, u, e, at) = stand in let inside : i < length list = omega arith in rw (at i inside) (all-at (paired (0, 0)) (listed-unbeaten u) i inside)
+
+  -- and each that is reached and that none beats is handed out
+  pub none-missing : (c : Pair) → NoneBeats (Reached (typesOf (tableEntries t n)) tree) c → (i : ℕ) × (i < len) × (pairAt after i ≡ c)
+  none-missing c b = let (list, u, e, at) = stand in let (i, h, k) = any-at (paired (0, 0)) (unbeaten-listed c u b) in (i, omega arith, at i h ∙ k)
+
+  -- so one that only copies breaks the promise where it copies a beaten pair
+  pub copied : (i : ℕ) → i < len → (d : Pair) → Reached (typesOf (tableEntries t n)) tree d → Beats d (pairAt after i) → ⊥
+  copied i h d = handed-out i h .none d
 
 -- at row 1 of net B, a copy of what meets there keeps (20, 850), which (14, 850) beats
 pub copied-B : {W : Type 0} (s : Storage W) (work work′ : W) → s .short work ≡ false → (before after : Lent) → shortLent before ≡ false → (len i : ℕ) → i < len → pairAt after i ≡ paired (20, 850) → ¬ (ListPromise s (tablesIn netB) (countsIn netB) 1 before work (Listed len) after work′)
