@@ -91,9 +91,9 @@ module _ (types : List Repeater) (driver : ℕ) (t : Tree) where
   pub plan-by : (p : Placement) (slack : ℤ) (load : ℕ) → Proper t → Legal types t p → top driver (frontOf types t) ≡ some (record { load = load; time = slack }) → timeOf types p t ⊖ (driver * loadOf types p t) ≡ slack → load ≡ loadOf types p t → Planned types driver t p slack load
   plan-by p slack load ok legal e = plan-top p (frontOf types t) (record { load = load; time = slack }) (method types t ok) e legal
 
-  -- what the method lists is the list
-  pub list-by : (l : List Pair) → Proper t → map pairOf (frontOf types t) ≡ l → Unbeaten (Reached types t) l
-  list-by l ok e = rw e at (listed types t ok)
+-- what the method lists is the list
+pub list-by : (types : List Repeater) (t : Tree) (l : List Pair) → Proper t → map pairOf (frontOf types t) ≡ l → Unbeaten (Reached types t) l
+list-by types t l ok e = rw e at (listed types t ok)
 
 -- the marks listed are types that there are, at sites that there are
 pub marked-legal : (types : List Repeater) (t : Tree) (marks : List ℕ) → All (λ m. m ≤ length types) marks → ((j : ℕ) → j < length marks → On t j) → Legal types t (marked marks)
@@ -248,26 +248,26 @@ two-B = marked-legal (typesBy 10) B₀ (1 ∷ 1 ∷ []) (cons (omega arith) (con
 pub examples : Examples
 unfolding bytes textEntries linesOf lineOf lettered typeLine driverLine pointLine sinkLine parted number digits signed typesOf rowsOf rowOf wireOf hangs at atRow typesBy wireBy A₀ A₁ B₀ B₁ B₂ C₀ marked loadOf seenLoad timeOf top pinned typeOf repeaterDelay wireDelay frontOf siteStep typeStep wireStep climb climbed behind buffered value best pick thinIn put stand standBy decLe ≤-or-< order merge mergeAt next joined minℤ hi lo _⊖_ meeting pairOf lone
 examples = record {
-  P1 = record { tree = A₀; tree-is = refl; slack-is = slack-by (typesBy 10) 20 A₀ _ _ refl; load-is = refl };
-  P2 = record { tree = A₀; tree-is = refl; planned = plan-by (typesBy 10) 20 A₀ _ _ _ proper-A (one-A (typesBy 10) (omega arith)) refl refl refl };
-  P3 = record { tree = A₁; tree-is = refl; unbeaten = list-by (typesBy 10) 20 A₁ _ proper-A refl };
-  P4 = record { tree = A₀; tree-is = refl; unbeaten = list-by (typesBy 10) 20 A₀ _ proper-A refl };
-  P5 = record { tree = A₀; tree-is = refl; planned = plan-by (typesBy 10) 0 A₀ _ _ _ proper-A (none-legal (typesBy 10) A₀) refl refl refl };
-  P6-none = record { tree = A₀; tree-is = refl; slack-is = slack-by (typesBy 20) 1 A₀ _ _ refl; load-is = refl };
-  P6-one = record { tree = A₀; tree-is = refl; slack-is = slack-by (typesBy 20) 1 A₀ _ _ refl; load-is = refl };
-  P6 = record { tree = A₀; tree-is = refl; planned = plan-by (typesBy 20) 1 A₀ _ _ _ proper-A (one-A (typesBy 20) (omega arith)) refl refl refl };
-  P7 = record { tree = B₀; tree-is = refl; planned = plan-by (typesBy 10) 20 B₀ _ _ _ proper-B two-B refl refl refl };
-  P7-list = record { tree = B₁; tree-is = refl; unbeaten = list-by (typesBy 10) 20 B₁ _ proper-B refl };
-  P8 = record { tree = B₀; tree-is = refl; slack-is = slack-by (typesBy 10) 20 B₀ _ _ refl; load-is = refl };
-  P9 = record { tree = C₀; tree-is = refl; planned = plan-by [] 20 C₀ _ _ _ tt (none-legal [] C₀) refl refl refl };
+  P1 = record { tree = A₀; tree-is = refl; slack-is = slack-by _ _ A₀ _ _ refl; load-is = refl };
+  P2 = record { tree = A₀; tree-is = refl; planned = plan-by _ _ A₀ _ _ _ proper-A (one-A (typesBy 10) (omega arith)) refl refl refl };
+  P3 = record { tree = A₁; tree-is = refl; unbeaten = list-by _ A₁ _ proper-A refl };
+  P4 = record { tree = A₀; tree-is = refl; unbeaten = list-by _ A₀ _ proper-A refl };
+  P5 = record { tree = A₀; tree-is = refl; planned = plan-by _ _ A₀ _ _ _ proper-A (none-legal (typesBy 10) A₀) refl refl refl };
+  P6-none = record { tree = A₀; tree-is = refl; slack-is = slack-by _ _ A₀ _ _ refl; load-is = refl };
+  P6-one = record { tree = A₀; tree-is = refl; slack-is = slack-by _ _ A₀ _ _ refl; load-is = refl };
+  P6 = record { tree = A₀; tree-is = refl; planned = plan-by _ _ A₀ _ _ _ proper-A (one-A (typesBy 20) (omega arith)) refl refl refl };
+  P7 = record { tree = B₀; tree-is = refl; planned = plan-by _ _ B₀ _ _ _ proper-B two-B refl refl refl };
+  P7-list = record { tree = B₁; tree-is = refl; unbeaten = list-by _ B₁ _ proper-B refl };
+  P8 = record { tree = B₀; tree-is = refl; slack-is = slack-by _ _ B₀ _ _ refl; load-is = refl };
+  P9 = record { tree = C₀; tree-is = refl; planned = plan-by _ _ C₀ _ _ _ tt (none-legal [] C₀) refl refl refl };
   P10 = refl;
   P10-unbeaten = meeting-unbeaten (two-below _ _ _ _ (omega arith) (omega arith)) (two-below _ _ _ _ (omega arith) (omega arith));
   P11-equal = beats-by _ _ _ _ (omega arith) (omega arith) (omega arith);
   P11-less = beats-by _ _ _ _ (omega arith) (omega arith) (omega arith);
   convex-kept = best-meeting 1 _ (meeting-unbeaten convex (cons nil nil)) (cons (omega times) (cons (omega times) nil)) (there (here refl));
   convex-dropped = best-meeting 1 _ (meeting-unbeaten (two-below _ _ _ _ (omega arith) (omega arith)) (cons nil nil)) (cons (omega times) (cons (omega times) nil)) (there (here refl));
-  wire-kept = record { tree = B₂; tree-is = refl; unbeaten = list-by (typesBy 10) 20 B₂ _ ((λ h. h), tt) refl };
+  wire-kept = record { tree = B₂; tree-is = refl; unbeaten = list-by _ B₂ _ ((λ h. h), tt) refl };
   wire-makes = refl;
   wire-beaten = beats-by _ _ _ _ (omega arith) (omega arith) (omega arith);
-  wire-thinned = list-by (typesBy 10) 20 (wire (wireBy 6 7) B₂) _ ((λ h. h), tt) refl;
+  wire-thinned = list-by _ (wire (wireBy 6 7) B₂) _ ((λ h. h), tt) refl;
 }
