@@ -77,6 +77,15 @@ pub none-A : slackRefusal (tablesIn netA) (countsIn netA) (0 ∷ 0 ∷ 0 ∷ 0 �
 unfolding tablesIn countsIn blank filled written typeTable rowTable dueTable tableEntries counted from rowEntry rowBy typeEntry tablesRefusal shortTables bytes textEntries linesOf lineOf lettered typeLine driverLine pointLine sinkLine parted number digits signed typesOf rowsOf rowOf refusalOf firstRefusal lineRefusal lastRefusal misplaced outOfRange tooMany sitesOf orphan noParent childless lineOfRow slackRefusal placementRefusal marksFrom markRefusal marks markIn
 none-A = refl
 
+-- both have a row 1
+pub rows-A : leb (countsIn netA .rows) 1 ≡ false
+unfolding countsIn bytes textEntries linesOf lineOf lettered typeLine driverLine pointLine sinkLine parted number digits signed rowsOf
+rows-A = refl
+
+pub rows-B : leb (countsIn netB .rows) 1 ≡ false
+unfolding countsIn bytes textEntries linesOf lineOf lettered typeLine driverLine pointLine sinkLine parted number digits signed rowsOf
+rows-B = refl
+
 -- ---- what a promise says of a success
 -- a success has one value
 pub done-same : {A : Type 0} (v w : A) → done v ≡ done w → v ≡ w

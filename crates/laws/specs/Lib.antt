@@ -16,3 +16,4 @@ pub mod Examples
 pub mod Given
 pub mod StandIns
 pub mod StandInLists
+pub mod Kept

@@ -13,12 +13,11 @@ use lib.ListN.{length, getD, length-map, List·getD-append, List·getD-map}
 use Rattle.rules.specs.declared.Listing.{Listing}
 use Rattle.rules.specs.declared.Listing.the-variants.{Listed}
 use Rattle.rules.specs.Lists.{All, Any, written, nil, cons, here, there}
-use Rattle.rules.specs.Entries.{Entry, typesOf, rowsOf, rowOf}
-use Rattle.rules.specs.Text.{textEntries, linesOf, lineOf, lettered, typeLine, driverLine, pointLine, sinkLine, parted, number, digits, signed}
+use Rattle.rules.specs.Entries.{typesOf, rowsOf}
 use Rattle.rules.specs.Tables.{Tables, Counts, tableEntries}
 use Rattle.rules.specs.Net.{Tree, atRow, wire}
 use Rattle.rules.specs.Pairs.{Pair, Beats, Unbeaten, Reached}
-use Rattle.rules.specs.Refused.{bytes, entries}
+use Rattle.rules.specs.Refused.{entries}
 use Rattle.rules.specs.Answers.{done, listFigures}
 use Rattle.rules.specs.Promises.{Storage, Lent, shortLent, listRefusal, ListPromise, ListOf}
 use Rattle.laws.specs.Lists.{all-head}
@@ -26,7 +25,7 @@ use Rattle.laws.specs.Listing.{NoneBeats, unbeaten-unique, listed-unbeat
 use Rattle.laws.specs.Settled.{one-tree}
 use Rattle.laws.specs.Figures.{list-figures}
 use Rattle.laws.specs.Examples.{netA, netB, typesBy, wireBy, B₂, IsList, paired, beats-by, examples}
-use Rattle.laws.specs.Given.{tablesIn, countsIn, Lends, lends-A, lends-B, done-same, list-given, list-taken}
+use Rattle.laws.specs.Given.{tablesIn, countsIn, Lends, lends-A, lends-B, rows-A, rows-B, done-same, list-given, list-taken}
 
 -- ---- only the best pair, an empty list, an invented length
 module _ {net : String} (lends : Lends net) {W : Type 0} (s : Storage W) (work work′ : W) (room : s .short work ≡ false) (row : ℕ) (inside : leb (countsIn net .rows) row ≡ false) (before after : Lent) (long : shortLent before ≡ false) where
@@ -41,15 +40,6 @@ module _ {net : String} (lends : Lends net) {W : Type 0} (s : Storage W) (work w
       of len e g =
           let same : g .list ≡ l = unbeaten-unique (rw (one-tree (g .tree-is) (f .tree-is)) at (g .unbeaten)) (f .unbeaten) in
           (list-figures a (Listed (length l)) (e ∙ ap done (g .long ∙ ap length same)), rw (← same) (g .loads), rw (← same) (g .times))
-
--- net A has three rows, net B four
-rows-A : leb (countsIn netA .rows) 1 ≡ false
-unfolding countsIn bytes textEntries linesOf lineOf lettered typeLine driverLine pointLine sinkLine parted number digits signed rowsOf
-rows-A = refl
-
-rows-B : leb (countsIn netB .rows) 1 ≡ false
-unfolding countsIn bytes textEntries linesOf lineOf lettered typeLine driverLine pointLine sinkLine parted number digits signed rowsOf
-rows-B = refl
 
 module _ {W : Type 0} (s : Storage W) (work work′ : W) (room : s .short work ≡ false) (before after : Lent) (long : shortLent before ≡ false) where
   -- the list at row 1 of net A has two pairs, whatever length is claimed

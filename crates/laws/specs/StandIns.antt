@@ -43,7 +43,8 @@ use Rattle.rules.specs.Refused.{bytes, entries}
 use Rattle.rules.specs.Answers.{Figures, Timing, refused, done, noCounts, noTiming, readFigures, checkFigures, slackFigures, planFigures, listFigures}
 use Rattle.rules.specs.Promises.{ReadPromise, readRefusal, CheckPromise, tablesRefusal, SlackPromise, slackRefusal, Storage, PlanPromise, shortPlacement, PlanOf, Lent, shortLent, ListPromise, ListOf}
 use Rattle.laws.specs.Listing.{unbeaten-unique}
-use Rattle.laws.specs.Settled.{one-tree, slack-unique, planned-unique}
+use Rattle.laws.specs.Settled.{one-tree, slack-unique, slack-settled, planned-unique, plan-settled}
+use Rattle.laws.specs.Kept.{slack-kept, plan-kept}
 use Rattle.laws.specs.Figures.{list-figures}
 use Rattle.laws.specs.Examples.{netA, netA-strong, netB, typesBy, wireBy, A₀, A₁, IsPlanned, IsList, paired, examples}
 use Rattle.laws.specs.Given.{text-A, none-A, blank, tablesIn, countsIn, Lends, lends-A, lends-A-strong, lends-B, States, states-A, states-A-strong, done-same, slack-given, plan-given, list-given, plan-taken, list-taken}
@@ -93,6 +94,13 @@ slack-claimed t n words slack load tree other taken tree-is had p differ =
     let (v, e, f) = slack-given t n words (Slack slack load) taken p in
     let d = done-same _ v e in
     differ (ap (λ x. x .slack) d ∙ slack-unique (typesOf (tableEntries t n)) (marks words) (driverOhms (rowsOf (tableEntries t n))) tree (rw (one-tree (f .tree-is) tree-is) at (f .slack)) had)
+
+-- at net A the answers are 430 without a repeater and 687 planned
+pub slack-claimed-A : (a : Slacking) → SlackPromise (tablesIn netA) (countsIn netA) (0 ∷ 0 ∷ 0 ∷ 0 ∷ []) a → ¬ (a ≡ Slack (record { 0 = pos 430 }) (record { 0 = 20 })) → ⊥
+slack-claimed-A a p differ = differ (slack-settled (tablesIn netA) (countsIn netA) (0 ∷ 0 ∷ 0 ∷ 0 ∷ []) a _ p slack-kept)
+
+pub plan-claimed-A : {W : Type 0} (s : Storage W) (work work′ : W) → s .short work ≡ false → (before after : List ℕ) → shortPlacement before ≡ false → (a : Planning) → PlanPromise s (tablesIn netA) (countsIn netA) before work a after work′ → ¬ (a ≡ Plan (record { 0 = pos 687 }) (record { 0 = 7 })) → ⊥
+plan-claimed-A s work work′ room before after long a p differ = differ (plan-settled s (tablesIn netA) (countsIn netA) before work a _ after _ work′ _ p (plan-kept s work room before long) .answer)
 
 -- the words handed back have the marks that are planned
 pub written-marks : (words before after : List ℕ) → length words ≡ placementRoom → after ≡ written words before → marks after ≡ marks words
