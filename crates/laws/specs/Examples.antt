@@ -1,6 +1,6 @@
 -- The paper's examples P1 to P11, and those of its thinning that goes wrong, as one table of statements with one proof. Nets are read
 -- from their texts. Assumes nothing.
-use mathlib.Core.Path.{_≡_, refl, sym, ap, subst, _∙_}
+use mathlib.Core.Path.{_≡_, refl, ap, subst}
 use mathlib.Core.List.{List, [], _∷_, map}
 use mathlib.Core.Logic.{_⊎_, inl, inr}
 use mathlib.Core.Option.{Option, none, some}
@@ -11,16 +11,16 @@ use native.Mathlib.Decide.{decLe, decLt}
 use native.Mathlib.Nat.{mul-le-mul-left}
 use lib.IntN.{ℤ, pos, negsuc}
 use lib.ListN.{length, getD, List·getD-eq-default}
-use lib.Signed.{_≤ℤ_, _<ℤ_}
+use lib.Signed.{_≤ℤ_}
 use Rattle.rules.specs.Quantities.{_⊖_}
-use Rattle.rules.specs.Lists.{All, Any, Pairwise, Least, nil, cons, here, there}
-use Rattle.rules.specs.Entries.{Entry, Repeater, typesOf, rowsOf, rowOf}
+use Rattle.rules.specs.Lists.{All, Any, Pairwise, nil, cons, here, there}
+use Rattle.rules.specs.Entries.{Repeater, typesOf, rowsOf, rowOf}
 use Rattle.rules.specs.Text.{textEntries, linesOf, lineOf, lettered, typeLine, driverLine, pointLine, sinkLine, parted, number, digits, signed}
 use Rattle.rules.specs.Placements.{Placement}
 use Rattle.rules.specs.Net.{Wire, Tree, sink, site, wire, both, wireOf, hangs, at, atRow, driverOhms}
 use Rattle.rules.specs.Slack.{typeOf, seenLoad, repeaterDelay, wireDelay, IsSlack}
 use Rattle.rules.specs.Slack.{load as loadOf}
-use Rattle.rules.specs.Pairs.{On, Pair, NoWorse, Beats, Below, Unbeaten, Legal, Reached, Planned}
+use Rattle.rules.specs.Pairs.{On, Pair, Beats, Below, Unbeaten, Legal, Reached, Planned}
 use Rattle.rules.specs.Refused.{bytes, entries}
 use Rattle.laws.specs.Integers.{times, hi, lo, minℤ, ≤-or-<, ≤-trans, order, ⊖-mono}
 use Rattle.laws.specs.Candidates.{Cand, Front, thinIn, put, stand, standBy}
@@ -29,7 +29,6 @@ use Rattle.laws.specs.Steps.{value, best, pick, buffered, joined, merge,
 use Rattle.laws.specs.Moves.{behind, wireStep, typeStep, siteStep}
 use Rattle.laws.specs.Trees.{slack-is}
 use Rattle.laws.specs.Trees.{time as timeOf}
-use Rattle.laws.specs.Joining.{join, set}
 use Rattle.laws.specs.Method.{Proper, Reaches, pinned, frontOf, method, planned}
 use Rattle.laws.specs.Listing.{pairOf, lone, listed, Meets, meeting, meeting-unbeaten}
 use Rattle.laws.specs.Lists.{any-all}

@@ -1,9 +1,8 @@
 -- The paper's figures determine the answer: a number and a place name one refusal, and no two answers of an entry have the same
 -- figures. Assumes nothing.
 use mathlib.Core.Path.{_≡_, refl, sym, ap, ap₂, _∙_}
-use mathlib.Core.List.{List, [], _∷_}
+use mathlib.Core.List.{[], _∷_}
 use Prim.Native.Nat.{ℕ, zero, suc}
-use lib.IntN.{ℤ}
 use lib.ListN.{getD}
 use Rattle.rules.specs.declared.Refusal.{Refusal}
 use Rattle.rules.specs.declared.Refusal.the-variants.{Form, Range, Room, Parent, Childless, Mark, Short, NoRow}
@@ -22,9 +21,8 @@ use Rattle.rules.specs.declared.Planning.the-variants.{Refused as NotPlanned}
 use Rattle.rules.specs.declared.Listing.{Listing}
 use Rattle.rules.specs.declared.Listing.the-variants.{Listed}
 use Rattle.rules.specs.declared.Listing.the-variants.{Refused as NotListed}
-use Rattle.rules.specs.Tables.{Counts}
 use Rattle.rules.specs.Refusals.{numberOf, placeOf}
-use Rattle.rules.specs.Answers.{Figures, Timing, refused, done, readFigures, checkFigures, slackFigures, planFigures, listFigures}
+use Rattle.rules.specs.Answers.{Figures, refused, done, readFigures, checkFigures, slackFigures, planFigures, listFigures}
 
 -- the refusal of a number and a place
 refusalBy : (number place : ℕ) → Refusal
@@ -78,7 +76,7 @@ module _ {A B : Type 0} (success : B → A) (refusal : Refusal → A) where
   figures-settle : (figures : A → Figures B) → ((a : A) → answerBy (figures a) ≡ a) → (a b : A) → figures a ≡ figures b → a ≡ b
   figures-settle figures back a b e = sym (back a) ∙ ap answerBy e ∙ back b
 
--- the figures of each entry determine its answer
+-- no two answers of read_net have the same figures
 pub read-figures : (a b : Reading) → readFigures a ≡ readFigures b → a ≡ b
 unfolding readFigures
 read-figures = figures-settle (λ v. Read (v .types) (v .rows)) NotRead readFigures back
@@ -87,6 +85,7 @@ read-figures = figures-settle (λ v. Read (v .types) (v .rows)) NotRead readFigu
     back (Read types rows) = done-back _ _ _
     back (NotRead r) = refused-back _ _ _ r
 
+-- nor of check_net
 pub check-figures : (a b : Checking) → checkFigures a ≡ checkFigures b → a ≡ b
 unfolding checkFigures
 check-figures = figures-settle (λ v. Accepted) NotAccepted checkFigures back
@@ -95,6 +94,7 @@ check-figures = figures-settle (λ v. Accepted) NotAccepted checkFigures back
     back Accepted = done-back _ _ _
     back (NotAccepted r) = refused-back _ _ _ r
 
+-- nor of slack_of
 pub slack-figures : (a b : Slacking) → slackFigures a ≡ slackFigures b → a ≡ b
 unfolding slackFigures
 slack-figures = figures-settle (λ v. Slack (record { 0 = v .slack }) (record { 0 = v .load })) NoSlack slackFigures back
@@ -103,6 +103,7 @@ slack-figures = figures-settle (λ v. Slack (record { 0 = v .slack }) (record { 
     back (Slack slack load) = done-back _ _ _
     back (NoSlack r) = refused-back _ _ _ r
 
+-- nor of plan_net
 pub plan-figures : (a b : Planning) → planFigures a ≡ planFigures b → a ≡ b
 unfolding planFigures
 plan-figures = figures-settle (λ v. Planned (record { 0 = v .slack }) (record { 0 = v .load })) NotPlanned planFigures back
@@ -111,6 +112,7 @@ plan-figures = figures-settle (λ v. Planned (record { 0 = v .slack }) (record {
     back (Planned slack load) = done-back _ _ _
     back (NotPlanned r) = refused-back _ _ _ r
 
+-- nor of list_at
 pub list-figures : (a b : Listing) → listFigures a ≡ listFigures b → a ≡ b
 unfolding listFigures
 list-figures = figures-settle Listed NotListed listFigures back

@@ -7,19 +7,17 @@ use Prim.Native.Nat.{ℕ, _+_, _*_, _≤_}
 use native.Mathlib.Nat.{le-refl}
 use lib.IntN.{ℤ}
 use lib.ListN.{length, length-map}
-use lib.Signed.{_≤ℤ_, _<ℤ_}
 use Rattle.rules.specs.Lists.{All, Any, Pairwise, Least, nil, cons, here, there}
 use Rattle.rules.specs.Entries.{Repeater}
 use Rattle.rules.specs.Placements.{Placement}
 use Rattle.rules.specs.Net.{Tree}
-use Rattle.rules.specs.Slack.{slacks}
-use Rattle.rules.specs.Pairs.{Pair, NoWorse, Beats, Unbeaten, Legal, PairOf, Reached, sitesOn}
+use Rattle.rules.specs.Pairs.{Pair, NoWorse, Beats, Unbeaten, Reached, sitesOn}
 use Rattle.rules.specs.Pairs.{Below as PairBelow}
 use Rattle.laws.specs.Lists.{all-head, all-tail, all-map, any-map, all-self, any-imp}
-use Rattle.laws.specs.Candidates.{Cand, Covers, Below, Same, Front, pair, front-unique, front-unbeaten, unbeaten-front}
+use Rattle.laws.specs.Candidates.{Cand, Same, Front, pair, front-unique, front-unbeaten, unbeaten-front}
 use Rattle.laws.specs.Candidates.{Beats as CandBeats}
 use Rattle.laws.specs.Candidates.{Unbeaten as CandUnbeaten}
-use Rattle.laws.specs.Integers.{≤-refl, minℤ, Lesser, min-lesser}
+use Rattle.laws.specs.Integers.{≤-refl, Lesser, min-lesser}
 use Rattle.laws.specs.Steps.{joined, Joins, merge, front-merge}
 use Rattle.laws.specs.Trees.{least-unique, time-is}
 use Rattle.laws.specs.Method.{Proper, Reaches, candOf, reaches, frontOf, method}

@@ -1,31 +1,30 @@
 -- Each promise settles its entry: two answers, and two memories afterwards, that one promise allows are equal. One exception is known:
 -- which of several planned placements stands in the four words. Assumes nothing.
-use mathlib.Core.Path.{_≡_, refl, sym, ap, ap₂, _∙_}
-use mathlib.Core.Bool.{Bool, false, _||_}
-use mathlib.Core.List.{List, [], _∷_, _++_, map}
+use mathlib.Core.Path.{_≡_, sym, ap, _∙_}
+use mathlib.Core.Bool.{false, _||_}
+use mathlib.Core.List.{List, map}
 use mathlib.Core.Logic.{_⊎_, inl, inr}
 use mathlib.Core.Option.{Option, none, some}
-use Prim.Native.Nat.{ℕ, _+_, _≤_}
+use Prim.Native.Nat.{ℕ, _+_}
 use native.Mathlib.Omega.{arith}
 use lib.IntN.{ℤ}
 use lib.ListN.{length, drop, length-append}
 use lib.Seq.{drop-at}
-use lib.Signed.{_≤ℤ_}
 use Rattle.rules.specs.declared.Refusal.{Refusal}
 use Rattle.rules.specs.declared.Reading.{Reading}
 use Rattle.rules.specs.declared.Checking.{Checking}
 use Rattle.rules.specs.declared.Slacking.{Slacking}
 use Rattle.rules.specs.declared.Planning.{Planning}
 use Rattle.rules.specs.declared.Listing.{Listing}
-use Rattle.rules.specs.Lists.{written, Least}
+use Rattle.rules.specs.Lists.{written}
 use Rattle.rules.specs.Quantities.{placementRoom}
 use Rattle.rules.specs.Entries.{Entry, Repeater, typesOf, rowsOf}
 use Rattle.rules.specs.Placements.{Placement, marks}
 use Rattle.rules.specs.Tables.{Tables, Counts, tableEntries}
-use Rattle.rules.specs.Net.{Tree, atRow, driverOhms}
+use Rattle.rules.specs.Net.{Tree, driverOhms}
 use Rattle.rules.specs.Slack.{load, IsSlack}
-use Rattle.rules.specs.Pairs.{Pair, Unbeaten, Reached, Planned}
-use Rattle.rules.specs.Answers.{Timing, noTiming, refused, done, readFigures, checkFigures, slackFigures, planFigures, listFigures}
+use Rattle.rules.specs.Pairs.{Planned}
+use Rattle.rules.specs.Answers.{Timing, noTiming, refused, done, planFigures, listFigures}
 use Rattle.rules.specs.Promises.{Settled, ReadPromise, readRefusal, CheckPromise, tablesRefusal, SlackPromise, slackRefusal, TimingOf, Storage, PlanPromise, shortPlacement, PlanOf, Lent, shortLent, listRefusal, ListPromise, ListOf}
 use Rattle.laws.specs.Integers.{≤-antisym}
 use Rattle.laws.specs.Trees.{least-unique}
@@ -38,11 +37,13 @@ either none f g p q = g p q
 either (some r) f g p q = f r p q
 
 -- ---- read_net
+-- one text, and tables before, settle the answer and the tables after
 pub read-settled : (text : List ℕ) (before : Tables) (a b : Reading) (x y : Tables) → ReadPromise text before a x → ReadPromise text before b y → (a ≡ b) × (x ≡ y)
 unfolding ReadPromise
 read-settled text before a b x y = either (readRefusal text before) (λ r (p, m) (q, n). (read-figures a b (p ∙ sym q), m ∙ sym n)) (λ (p, m) (q, n). (read-figures a b (p ∙ sym q), m ∙ sym n))
 
 -- ---- check_net
+-- tables settle the answer
 pub check-settled : (t : Tables) (n : Counts) (a b : Checking) → CheckPromise t n a → CheckPromise t n b → a ≡ b
 unfolding CheckPromise
 check-settled t n a b = either (tablesRefusal false t n) (λ r p q. check-figures a b (p ∙ sym q)) (λ p q. check-figures a b (p ∙ sym q))
@@ -65,6 +66,7 @@ timing-unique es words v w f g =
     let l : v .load ≡ w .load = f .load ∙ ap (load (typesOf es) (marks words)) e ∙ sym (g .load) in
     λ i. record { slack = s i; load = l i }
 
+-- tables and a placement settle the answer
 pub slack-settled : (t : Tables) (n : Counts) (words : List ℕ) (a b : Slacking) → SlackPromise t n words a → SlackPromise t n words b → a ≡ b
 unfolding SlackPromise
 slack-settled t n words a b = either (slackRefusal t n words) (λ r p q. slack-figures a b (p ∙ sym q)) (λ (v, p, f) (w, q, g). slack-figures a b (p ∙ ap done (timing-unique (tableEntries t n) words v w f g) ∙ sym q))
@@ -83,6 +85,7 @@ list-unique es row before x y m n f g = same (unbeaten-unique (rw (one-tree (f .
     same : f .list ≡ g .list → (m ≡ n) × (x ≡ y)
     same l = (f .long ∙ ap length l ∙ sym (g .long), λ i. record { loads = loads l i; times = times l i })
 
+-- tables, a row and the lent areas settle the answer and every lent word after
 pub list-settled : {W : Type 0} (s : Storage W) (t : Tables) (n : Counts) (row : ℕ) (before : Lent) (work : W) (a b : Listing) (x y : Lent) (w v : W) → ListPromise s t n row before work a x w → ListPromise s t n row before work b y v → (a ≡ b) × (x ≡ y) × (w ≡ v)
 unfolding ListPromise
 list-settled s t n row before work a b x y w v = either (listRefusal (shortLent before || s .short work) t n row) (λ r (p, f, h) (q, g, k). (list-figures a b (p ∙ sym q), f ∙ sym g, h ∙ sym k)) whereNot
@@ -119,6 +122,7 @@ written-past : (words before after : List ℕ) → length words ≡ placementRoo
 unfolding written
 written-past words before after four e = ap (drop placementRoom) e ∙ drop-at words (drop (length words) before) placementRoom four ∙ rw four
 
+-- tables and the lent areas settle all but which planned placement is returned
 pub plan-settled : {W : Type 0} (s : Storage W) (t : Tables) (n : Counts) (before : List ℕ) (work : W) (a b : Planning) (x y : List ℕ) (w v : W) → PlanPromise s t n before work a x w → PlanPromise s t n before work b y v → SamePlan (tableEntries t n) before a b x y w v
 unfolding PlanPromise
 plan-settled s t n before work a b x y w v = either (tablesRefusal (shortPlacement before || s .short work) t n) whereRefused whereNot

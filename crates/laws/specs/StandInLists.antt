@@ -1,14 +1,14 @@
 -- The stand-ins for a list, each ruled out by list_at's promise: only the best pair, an empty list, an invented length, and thinning at
 -- some rows with copying at the others. Assumes nothing.
-use mathlib.Core.Path.{_≡_, refl, sym, ap, _∙_}
-use mathlib.Core.Bool.{Bool, true, false, _||_}
-use mathlib.Core.List.{List, [], _∷_, _++_, map}
-use mathlib.Core.Option.{Option, none, some}
-use Prim.Native.Nat.{ℕ, zero, suc, _+_, _≤_, _<_}
+use mathlib.Core.Path.{_≡_, ap, _∙_}
+use mathlib.Core.Bool.{false, _||_}
+use mathlib.Core.List.{List, [], _∷_, map}
+use mathlib.Core.Option.{none, some}
+use Prim.Native.Nat.{ℕ, zero, suc, _<_}
 use Prim.Native.String.{String}
 use native.Mathlib.Omega.{arith}
 use lib.Dec.{leb}
-use lib.IntN.{ℤ, pos}
+use lib.IntN.{pos}
 use lib.ListN.{length, getD, length-map, List·getD-append, List·getD-map}
 use Rattle.rules.specs.declared.Listing.{Listing}
 use Rattle.rules.specs.declared.Listing.the-variants.{Listed}
@@ -25,7 +25,8 @@ use Rattle.laws.specs.Listing.{NoneBeats, unbeaten-unique, listed-unbeat
 use Rattle.laws.specs.Settled.{one-tree}
 use Rattle.laws.specs.Figures.{list-figures}
 use Rattle.laws.specs.Examples.{netA, netB, typesBy, wireBy, B₂, IsList, paired, beats-by, examples}
-use Rattle.laws.specs.Given.{tablesIn, countsIn, Lends, lends-A, lends-B, rows-A, rows-B, done-same, list-given, list-taken}
+use Rattle.laws.specs.Given.{tablesIn, countsIn, Lends, done-same, list-given, list-taken, Nets, nets}
+open Nets nets using (lends-A, lends-B, rows-A, rows-B)
 
 -- ---- only the best pair, an empty list, an invented length
 module _ {net : String} (lends : Lends net) {W : Type 0} (s : Storage W) (work work′ : W) (room : s .short work ≡ false) (row : ℕ) (inside : leb (countsIn net .rows) row ≡ false) (before after : Lent) (long : shortLent before ≡ false) where
@@ -46,9 +47,11 @@ module _ {W : Type 0} (s : Storage W) (work work′ : W) (room : s .short work �
   pub invented-length : (len : ℕ) → ¬ (len ≡ 2) → ¬ (ListPromise s (tablesIn netA) (countsIn netA) 1 before work (Listed len) after work′)
   invented-length len other p = let (e, l, t) = listed-exactly lends-A s work work′ room 1 rows-A before after long (paired (2, 855) ∷ paired (15, 910) ∷ []) (Listed len) (examples .P3) p in other (cc)
 
+  -- so it is not empty
   pub empty-list : ¬ (ListPromise s (tablesIn netA) (countsIn netA) 1 before work (Listed 0) after work′)
   empty-list = invented-length 0 (omega arith)
 
+  -- nor one pair alone
   pub only-the-best : ¬ (ListPromise s (tablesIn netA) (countsIn netA) 1 before work (Listed 1) after work′)
   only-the-best = invented-length 1 (omega arith)
 

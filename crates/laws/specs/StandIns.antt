@@ -1,11 +1,10 @@
--- The stand-ins of the paper's last section, each ruled out by its promise at an input that shows it: one that refuses everything, one
--- fixed placement, the net untouched, only the best pair, an empty list, an invented length, a slack the placement hasn't got, and
--- thinning at some rows with copying at the others. Assumes nothing.
-use mathlib.Core.Path.{_≡_, refl, sym, ap, _∙_}
-use mathlib.Core.Bool.{Bool, true, false, _||_}
-use mathlib.Core.List.{List, [], _∷_, _++_, map}
-use mathlib.Core.Option.{Option, none, some}
-use Prim.Native.Nat.{ℕ, zero, suc, _+_, _*_, _/_, _%_, _≤_, _<_}
+-- Stand-ins of the paper's last section, each ruled out by its promise at an input that shows it: one that refuses everything, a slack
+-- the placement hasn't got, one fixed placement, and the net untouched. Those for a list are in StandInLists. Assumes nothing.
+use mathlib.Core.Path.{_≡_, sym, ap, _∙_}
+use mathlib.Core.Bool.{false, _||_}
+use mathlib.Core.List.{List, [], _∷_}
+use mathlib.Core.Option.{none, some}
+use Prim.Native.Nat.{ℕ, _/_, _%_}
 use Prim.Native.String.{String}
 use native.Mathlib.Omega.{arith}
 use lib.Dec.{leb}
@@ -16,9 +15,7 @@ use Rattle.rules.specs.declared.Refusal.{Refusal}
 use Rattle.rules.specs.declared.Refusal.the-variants.{Form, Range, Room, Parent, Childless, Mark, Short, NoRow}
 use Rattle.rules.specs.declared.Femtofarad.{Femtofarad}
 use Rattle.rules.specs.declared.Femtosecond.{Femtosecond}
-use Rattle.rules.specs.declared.Reading.{Reading}
 use Rattle.rules.specs.declared.Reading.the-variants.{Refused as NotRead}
-use Rattle.rules.specs.declared.Checking.{Checking}
 use Rattle.rules.specs.declared.Checking.the-variants.{Refused as NotAccepted}
 use Rattle.rules.specs.declared.Slacking.{Slacking}
 use Rattle.rules.specs.declared.Slacking.the-variants.{Slack}
@@ -26,28 +23,25 @@ use Rattle.rules.specs.declared.Slacking.the-variants.{Refused as NoSlack}
 use Rattle.rules.specs.declared.Planning.{Planning}
 use Rattle.rules.specs.declared.Planning.the-variants.{Planned as Plan}
 use Rattle.rules.specs.declared.Planning.the-variants.{Refused as NotPlanned}
-use Rattle.rules.specs.declared.Listing.{Listing}
-use Rattle.rules.specs.declared.Listing.the-variants.{Listed}
 use Rattle.rules.specs.declared.Listing.the-variants.{Refused as NotListed}
 use Rattle.rules.specs.Lists.{written}
 use Rattle.rules.specs.Quantities.{placementRoom}
-use Rattle.rules.specs.Entries.{Entry, Repeater, typesOf, rowsOf}
+use Rattle.rules.specs.Entries.{Repeater, typesOf, rowsOf}
 use Rattle.rules.specs.Placements.{Placement, marks, markIn}
 use Rattle.rules.specs.Tables.{Tables, Counts, tableEntries}
 use Rattle.rules.specs.Net.{Tree, atRow, driverOhms}
 use Rattle.rules.specs.Slack.{seenLoad, IsSlack}
 use Rattle.rules.specs.Slack.{load as loadOf}
-use Rattle.rules.specs.Pairs.{Pair, Beats, Reached, Planned}
+use Rattle.rules.specs.Pairs.{Planned}
 use Rattle.rules.specs.Refusals.{numberOf}
-use Rattle.rules.specs.Refused.{bytes, entries}
-use Rattle.rules.specs.Answers.{Figures, Timing, refused, done, noCounts, noTiming, readFigures, checkFigures, slackFigures, planFigures, listFigures}
-use Rattle.rules.specs.Promises.{ReadPromise, readRefusal, CheckPromise, tablesRefusal, SlackPromise, slackRefusal, Storage, PlanPromise, shortPlacement, PlanOf, Lent, shortLent, ListPromise, ListOf}
-use Rattle.laws.specs.Listing.{unbeaten-unique}
+use Rattle.rules.specs.Refused.{bytes}
+use Rattle.rules.specs.Answers.{Timing, refused, done, noCounts, noTiming, readFigures, checkFigures, slackFigures, planFigures, listFigures}
+use Rattle.rules.specs.Promises.{ReadPromise, CheckPromise, tablesRefusal, SlackPromise, slackRefusal, Storage, PlanPromise, shortPlacement, PlanOf, Lent, shortLent, ListPromise}
 use Rattle.laws.specs.Settled.{one-tree, slack-unique, slack-settled, planned-unique, plan-settled}
 use Rattle.laws.specs.Kept.{slack-kept, plan-kept}
-use Rattle.laws.specs.Figures.{list-figures}
-use Rattle.laws.specs.Examples.{netA, netA-strong, netB, typesBy, wireBy, A₀, A₁, IsPlanned, IsList, paired, examples}
-use Rattle.laws.specs.Given.{text-A, none-A, blank, tablesIn, countsIn, Lends, lends-A, lends-A-strong, lends-B, States, states-A, states-A-strong, done-same, slack-given, plan-given, list-given, plan-taken, list-taken}
+use Rattle.laws.specs.Examples.{netA, netA-strong, typesBy, wireBy, A₀, A₁, IsPlanned, examples}
+use Rattle.laws.specs.Given.{blank, tablesIn, countsIn, Lends, States, done-same, slack-given, plan-given, list-given, plan-taken, list-taken, Nets, nets}
+open Nets nets using (text-A, none-A, lends-A, lends-A-strong, states-A, states-A-strong)
 
 -- ---- one that refuses everything
 not-zero : (r : Refusal) → ¬ (numberOf r ≡ 0)
@@ -64,30 +58,34 @@ refused-not-done : {A : Type 0} (zeros v : A) (r : Refusal) → ¬ (refused zero
 unfolding refused done
 refused-not-done zeros v r e = not-zero r (ap (λ f. f .number) e)
 
--- net A's text is read, net A's tables are accepted
+-- net A's text is read
 pub reading-refused : (r : Refusal) (after : Tables) → ¬ (ReadPromise (bytes netA) blank (NotRead r) after)
 unfolding ReadPromise readFigures
 reading-refused r after p = refused-not-done noCounts _ r ((rw text-A at p) .0)
 
+-- net A's tables are accepted
 pub checking-refused : (r : Refusal) → ¬ (CheckPromise (tablesIn netA) (countsIn netA) (NotAccepted r))
 unfolding CheckPromise checkFigures
 checking-refused r p = refused-not-done tt tt r (rw (lends-A .taken) at p)
 
--- and so are a slack, a plan, and the list at each row given; plans and lists of any net that is lent as tables
+-- net A's slack without a repeater is given
 pub slacking-refused : (r : Refusal) → ¬ (SlackPromise (tablesIn netA) (countsIn netA) (0 ∷ 0 ∷ 0 ∷ 0 ∷ []) (NoSlack r))
 unfolding slackFigures
 slacking-refused r p = let (v, e, f) = slack-given (tablesIn netA) (countsIn netA) (0 ∷ 0 ∷ 0 ∷ 0 ∷ []) (NoSlack r) none-A p in refused-not-done noTiming v r e
 
 module _ {W : Type 0} (s : Storage W) (work work′ : W) (room : s .short work ≡ false) where
+  -- a net lent as tables, as net A is, is planned
   pub planning-refused : {net : String} → Lends net → (r : Refusal) (before after : List ℕ) → shortPlacement before ≡ false → ¬ (PlanPromise s (tablesIn net) (countsIn net) before work (NotPlanned r) after work′)
   unfolding planFigures
   planning-refused {net} lends r before after long p = let (v, e, f, w) = plan-given (tablesIn net) (countsIn net) s work before (NotPlanned r) after work′ (plan-taken lends s work room before long) p in refused-not-done noTiming v r e
 
+  -- and the list is given at each of its rows
   pub listing-refused : {net : String} → Lends net → (r : Refusal) (row : ℕ) (before after : Lent) → shortLent before ≡ false → leb (countsIn net .rows) row ≡ false → ¬ (ListPromise s (tablesIn net) (countsIn net) row before work (NotListed r) after work′)
   unfolding listFigures
   listing-refused {net} lends r row before after long inside p = let (v, e, f, w) = list-given (tablesIn net) (countsIn net) s work row before (NotListed r) after work′ (list-taken lends s work room row before long inside) p in refused-not-done 0 v r e
 
 -- ---- a slack the placement hasn't got
+-- slack_of claims no slack other than the placement's
 pub slack-claimed : (t : Tables) (n : Counts) (words : List ℕ) (slack : Femtosecond) (load : Femtofarad) (tree : Tree) (other : ℤ) → slackRefusal t n words ≡ none → atRow (rowsOf (tableEntries t n)) 0 ≡ some tree → IsSlack (typesOf (tableEntries t n)) (marks words) (driverOhms (rowsOf (tableEntries t n))) tree other → SlackPromise t n words (Slack slack load) → ¬ (slack .0 ≡ other) → ⊥
 unfolding slackFigures
 slack-claimed t n words slack load tree other taken tree-is had p differ =
@@ -95,10 +93,11 @@ slack-claimed t n words slack load tree other taken tree-is had p differ =
     let d = done-same _ v e in
     differ (ap (λ x. x .slack) d ∙ slack-unique (typesOf (tableEntries t n)) (marks words) (driverOhms (rowsOf (tableEntries t n))) tree (rw (one-tree (f .tree-is) tree-is) at (f .slack)) had)
 
--- at net A the answers are 430 without a repeater and 687 planned
+-- at net A it answers 430 and 20 without a repeater, and nothing else
 pub slack-claimed-A : (a : Slacking) → SlackPromise (tablesIn netA) (countsIn netA) (0 ∷ 0 ∷ 0 ∷ 0 ∷ []) a → ¬ (a ≡ Slack (record { 0 = pos 430 }) (record { 0 = 20 })) → ⊥
 slack-claimed-A a p differ = differ (slack-settled (tablesIn netA) (countsIn netA) (0 ∷ 0 ∷ 0 ∷ 0 ∷ []) a _ p slack-kept)
 
+-- and plan_net 687 and 7
 pub plan-claimed-A : {W : Type 0} (s : Storage W) (work work′ : W) → s .short work ≡ false → (before after : List ℕ) → shortPlacement before ≡ false → (a : Planning) → PlanPromise s (tablesIn netA) (countsIn netA) before work a after work′ → ¬ (a ≡ Plan (record { 0 = pos 687 }) (record { 0 = 7 })) → ⊥
 plan-claimed-A s work work′ room before after long a p differ = differ (plan-settled s (tablesIn netA) (countsIn netA) before work a _ after _ work′ _ p (plan-kept s work room before long) .answer)
 
@@ -119,6 +118,7 @@ module _ (t : Tables) (n : Counts) {W : Type 0} (s : Storage W) (work work′ : 
       of : (v : Timing) → record { slack = slack .0; load = load .0 } ≡ v → PlanOf (tableEntries t n) before after v → Planned (typesOf (tableEntries t n)) (driverOhms (rowsOf (tableEntries t n))) tree (marks after) (slack .0) (load .0)
       of v d f = rw (written-marks (f .words) before after (f .four) (f .after-is), ap (λ (x : Timing). x .slack) d, ap (λ (x : Timing). x .load) d, ← one-tree (f .tree-is) tree-is) (f .planned)
 
+  -- plan_net claims no slack other than that of the words handed back
   pub plan-claimed : (slack : Femtosecond) (load : Femtofarad) (tree : Tree) (other : ℤ) → atRow (rowsOf (tableEntries t n)) 0 ≡ some tree → IsSlack (typesOf (tableEntries t n)) (marks after) (driverOhms (rowsOf (tableEntries t n))) tree other → PlanPromise s t n before work (Plan slack load) after work′ → ¬ (slack .0 ≡ other) → ⊥
   plan-claimed slack load tree other tree-is had p differ = differ (slack-unique _ (marks after) _ tree (plan-marks slack load tree tree-is p .slack-is) had)
 
