@@ -16,7 +16,7 @@ use Rattle.rules.specs.Quantities.{_⊖_}
 use Rattle.rules.specs.Lists.{All, Any, Pairwise, nil, cons, here, there}
 use Rattle.rules.specs.Entries.{Repeater, typesOf, rowsOf, rowOf}
 use Rattle.rules.specs.Text.{textEntries, linesOf, lineOf, lettered, typeLine, driverLine, pointLine, sinkLine, parted, number, digits, signed}
-use Rattle.rules.specs.Placements.{Placement}
+use Rattle.rules.specs.Placements.{Placement, rowOfSite}
 use Rattle.rules.specs.Net.{Wire, Tree, sink, site, wire, both, wireOf, hangs, at, atRow, driverOhms}
 use Rattle.rules.specs.Slack.{typeOf, seenLoad, repeaterDelay, wireDelay, IsSlack}
 use Rattle.rules.specs.Slack.{load as loadOf}
@@ -176,6 +176,7 @@ pub record Examples : Type 0 where
   pub P1 : HasTiming netA (marked []) (pos 430) 20
   -- planned: slack 687, load 7, type 1 at row 1
   pub P2 : IsPlanned netA (marked (1 ∷ [])) (pos 687) 7
+  pub P2-row : rowOfSite 0 (rowsOf (entries netA)) 0 ≡ 1
   -- list at row 1: (2, 855), (15, 910)
   pub P3 : IsList netA 1 (paired (2, 855) ∷ paired (15, 910) ∷ [])
   -- list at row 0: (7, 827), (20, 830)
@@ -188,6 +189,7 @@ pub record Examples : Type 0 where
   pub P6 : IsPlanned netA-even (marked (1 ∷ [])) (pos 810) 7
   -- net B, planned: slack 394, load 19, type 1 at rows 2 and 3; list at row 1: (14, 850), (42, 912)
   pub P7 : IsPlanned netB (marked (1 ∷ 1 ∷ [])) (pos 394) 19
+  pub P7-rows : (rowOfSite 0 (rowsOf (entries netB)) 0 ≡ 2) × (rowOfSite 0 (rowsOf (entries netB)) 1 ≡ 3)
   pub P7-list : IsList netB 1 (paired (14, 850) ∷ paired (42, 912) ∷ [])
   -- no repeater: slack -362, load 53
   pub P8 : HasTiming netB (marked []) (negsuc 361) 53
@@ -245,10 +247,11 @@ two-B = marked-legal (typesBy 10) B₀ (1 ∷ 1 ∷ []) (cons (omega arith) (con
     on (suc (suc j)) h = absurd (omega arith)
 
 pub examples : Examples
-unfolding bytes textEntries linesOf lineOf lettered typeLine driverLine pointLine sinkLine parted number digits signed typesOf rowsOf rowOf wireOf hangs at atRow typesBy wireBy A₀ A₁ B₀ B₁ B₂ C₀ marked loadOf seenLoad timeOf top pinned typeOf repeaterDelay wireDelay frontOf siteStep typeStep wireStep climb climbed behind buffered value best pick thinIn put stand standBy decLe ≤-or-< order merge mergeAt next joined minℤ hi lo _⊖_ meeting pairOf lone
+unfolding bytes textEntries linesOf lineOf lettered typeLine driverLine pointLine sinkLine parted number digits signed typesOf rowsOf rowOf wireOf hangs at atRow rowOfSite typesBy wireBy A₀ A₁ B₀ B₁ B₂ C₀ marked loadOf seenLoad timeOf top pinned typeOf repeaterDelay wireDelay frontOf siteStep typeStep wireStep climb climbed behind buffered value best pick thinIn put stand standBy decLe ≤-or-< order merge mergeAt next joined minℤ hi lo _⊖_ meeting pairOf lone
 examples = record {
   P1 = record { tree = A₀; tree-is = refl; slack-is = slack-by _ _ A₀ _ _ refl; load-is = refl };
   P2 = record { tree = A₀; tree-is = refl; planned = plan-by _ _ A₀ _ _ _ proper-A (one-A (typesBy 10) (omega arith)) refl refl refl };
+  P2-row = refl;
   P3 = record { tree = A₁; tree-is = refl; unbeaten = list-by _ A₁ _ proper-A refl };
   P4 = record { tree = A₀; tree-is = refl; unbeaten = list-by _ A₀ _ proper-A refl };
   P5 = record { tree = A₀; tree-is = refl; planned = plan-by _ _ A₀ _ _ _ proper-A (none-legal (typesBy 10) A₀) refl refl refl };
@@ -256,6 +259,7 @@ examples = record {
   P6-one = record { tree = A₀; tree-is = refl; slack-is = slack-by _ _ A₀ _ _ refl; load-is = refl };
   P6 = record { tree = A₀; tree-is = refl; planned = plan-by _ _ A₀ _ _ _ proper-A (one-A (typesBy 20) (omega arith)) refl refl refl };
   P7 = record { tree = B₀; tree-is = refl; planned = plan-by _ _ B₀ _ _ _ proper-B two-B refl refl refl };
+  P7-rows = (refl, refl);
   P7-list = record { tree = B₁; tree-is = refl; unbeaten = list-by _ B₁ _ proper-B refl };
   P8 = record { tree = B₀; tree-is = refl; slack-is = slack-by _ _ B₀ _ _ refl; load-is = refl };
   P9 = record { tree = C₀; tree-is = refl; planned = plan-by _ _ C₀ _ _ _ tt (none-legal [] C₀) refl refl refl };

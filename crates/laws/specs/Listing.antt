@@ -2,7 +2,7 @@
 -- order, and no longer than one and one for each type at each site at or below. Assumes nothing.
 use mathlib.Core.Path.{_≡_, refl, sym, ap, subst, _∙_}
 use mathlib.Core.List.{List, [], _∷_, map}
-use mathlib.Core.Logic.{⊎-elim}
+use mathlib.Core.Logic.{⊎-elim, _↔_}
 use Prim.Native.Nat.{ℕ, _+_, _*_, _≤_}
 use native.Mathlib.Nat.{le-refl}
 use lib.IntN.{ℤ}
@@ -13,7 +13,7 @@ use Rattle.rules.specs.Placements.{Placement}
 use Rattle.rules.specs.Net.{Tree}
 use Rattle.rules.specs.Pairs.{Pair, NoWorse, Beats, Unbeaten, Reached, sitesOn}
 use Rattle.rules.specs.Pairs.{Below as PairBelow}
-use Rattle.laws.specs.Lists.{all-head, all-tail, all-map, any-map, all-self, any-imp}
+use Rattle.laws.specs.Lists.{all-head, all-tail, all-map, any-map, any-all, all-self, any-imp}
 use Rattle.laws.specs.Candidates.{Cand, Same, Front, pair, front-unique, front-unbeaten, unbeaten-front}
 use Rattle.laws.specs.Candidates.{Beats as CandBeats}
 use Rattle.laws.specs.Candidates.{Unbeaten as CandUnbeaten}
@@ -114,6 +114,10 @@ module _ {R : Pair → Type 0} where
     where
       beats : (d : Cand (Unit {0})) → CandBeats d (lone c) → Beats (pairOf d) c
       beats d b = record { noWorse = record { load = b .covers .light; time = b .covers .late }; differ = λ e. b .differ (record { load = ap (λ x. x .load) e; time = ap (λ x. x .time) e }) }
+
+  -- the list is exactly the pairs of R that none beats
+  pub listed-iff : {l : List Pair} (c : Pair) → Unbeaten R l → Any (λ m. m ≡ c) l ↔ NoneBeats R c
+  listed-iff c u = (λ h. let (m, n, e) = any-all (listed-unbeaten u) h in subst (NoneBeats R) e n, unbeaten-listed c u)
 
 -- ---- at any place of a net
 module _ (types : List Repeater) (t : Tree) (ok : Proper t) where
