@@ -17,3 +17,4 @@ pub mod Given
 pub mod StandIns
 pub mod StandInLists
 pub mod Kept
+pub mod Words
