@@ -9,3 +9,5 @@ pub mod Moves
 pub mod Method
 pub mod Bounds
 pub mod Ranges
+pub mod Walk
+pub mod Tabled
