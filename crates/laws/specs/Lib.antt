@@ -9,3 +9,6 @@ pub mod Moves
 pub mod Method
 pub mod Bounds
 pub mod Ranges
+pub mod Taken
+pub mod Accepted
+pub mod Rows
