@@ -12,3 +12,4 @@ pub mod Ranges
 pub mod Taken
 pub mod Accepted
 pub mod Rows
+pub mod Hanging
