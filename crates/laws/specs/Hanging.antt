@@ -1,21 +1,18 @@
--- What hangs under a row: how it is made row by row, that its sites have numbers of their own, and that of an accepted net there is a
--- tree at every row and all the sites are the driver's. Assumes nothing.
-use mathlib.Core.Path.{_≡_, refl, sym, ap, _∙_}
+-- What hangs under a row: how it is made row by row, and that its sites have numbers of their own. Assumes nothing.
+use mathlib.Core.Path.{_≡_, refl, sym, _∙_}
 use mathlib.Core.Bool.{Bool, true, false, cond, not, _||_}
 use mathlib.Core.List.{List, [], _∷_}
 use mathlib.Core.Logic.{_≢_, _⊎_, inl, inr, ⊎-elim}
 use mathlib.Core.Option.{Option, none, some}
-use Prim.Native.Nat.{ℕ, zero, suc, _+_, _-_, _≤_, _<_}
+use Prim.Native.Nat.{ℕ, zero, suc, _+_, _≤_, _<_}
 use native.Mathlib.Omega.{arith}
-use native.Mathlib.Decide.{ℕ-discrete, decLt}
-use lib.Dec.{T, T-not, not-T, eqb, eqb→eq, eqb-refl}
+use lib.Dec.{T, not-T, eqb, eqb→eq, eqb-refl}
 use lib.ListN.{length, getD, take, drop}
 use Rattle.rules.specs.declared.Kind.{Kind}
 use Rattle.rules.specs.declared.Kind.the-variants.{Driver, Point, Sink}
 use Rattle.rules.specs.declared.Row.{Row}
-use Rattle.rules.specs.Entries.{Repeater, rowOf, siteCount, sitesOf}
-use Rattle.rules.specs.Refusals.{isSink, under}
-use Rattle.rules.specs.Net.{Wire, Tree, sink, site, wire, both, wireOf, sited, seen, wired, beside, hangs, at, atRow, driverOhms}
+use Rattle.rules.specs.Entries.{siteCount, sitesOf}
+use Rattle.rules.specs.Net.{Wire, Tree, sink, site, wire, both, wireOf, sited, seen, wired, beside, hangs, at, atRow}
 use Rattle.rules.specs.Pairs.{On}
 use Rattle.laws.specs.Method.{Proper}
 use Rattle.laws.specs.Taken.{driverRow}

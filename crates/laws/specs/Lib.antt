@@ -13,3 +13,4 @@ pub mod Taken
 pub mod Accepted
 pub mod Rows
 pub mod Hanging
+pub mod Whole

@@ -132,6 +132,12 @@ module _ {types : List Repeater} {rows : List Row} (ok : Accepted types rows) wh
       let (j, k, e) = under-find d i (drop (suc i) rows) (rw (← (standing-get d 0 i rows (ok .standing) h), z) at t) in
       (suc i + j, omega arith, omega (arith, length-drop (suc i) rows), rw getD-drop at e)
 
+  -- a row stands under row i where it is no sink, and only there
+  pub standing-at : (d : Row) (i : ℕ) → i < length rows → Standing (i + 1) (drop (suc i) rows) × (under i (drop (suc i) rows) ≡ not (isSink (getD rows i d .kind)))
+  standing-at d i h =
+      let z : 0 + i ≡ i = omega arith in
+      (rw add-one (standing-from (suc i)), rw z at (standing-get d 0 i rows (ok .standing) h))
+
   row-later : (d : Row) (i : ℕ) → 1 ≤ i → i < length rows → (getD rows i d .parent < i) × T (not (isDriver (getD rows i d .kind)))
   row-later d zero h k = absurd (omega arith)
   row-later d (suc i) h k =
