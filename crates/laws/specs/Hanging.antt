@@ -28,11 +28,12 @@ same {m} {n} e = rw e (eqb-refl n)
 pub other : {m n : ℕ} → m ≢ n → T (not (eqb m n))
 other {m} {n} h = not-T (eqb m n) (λ t. h (eqb→eq m n t))
 
-cond-yes : {A : Type 0} (b : Bool) (a c : A) → T b → cond b a c ≡ a
+-- a test that passes, and one that does not
+pub cond-yes : {A : Type 0} (b : Bool) (a c : A) → T b → cond b a c ≡ a
 cond-yes true a c t = refl
 cond-yes false a c t = absurd t
 
-cond-no : {A : Type 0} (b : Bool) (a c : A) → T (not b) → cond b a c ≡ c
+pub cond-no : {A : Type 0} (b : Bool) (a c : A) → T (not b) → cond b a c ≡ c
 cond-no true a c t = absurd t
 cond-no false a c t = refl
 

@@ -14,3 +14,4 @@ pub mod Accepted
 pub mod Rows
 pub mod Hanging
 pub mod Whole
+pub mod Legality
