@@ -15,3 +15,4 @@ pub mod Rows
 pub mod Hanging
 pub mod Whole
 pub mod Legality
+pub mod Sums
