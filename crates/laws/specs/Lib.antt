@@ -16,3 +16,5 @@ pub mod Hanging
 pub mod Whole
 pub mod Legality
 pub mod Sums
+pub mod Within
+pub mod Waiting
