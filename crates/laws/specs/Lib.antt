@@ -18,3 +18,5 @@ pub mod Legality
 pub mod Sums
 pub mod Within
 pub mod Waiting
+pub mod Room
+pub mod MethodAt
