@@ -1,28 +1,24 @@
 -- What a net that is not refused is like: its types and numbers, its driver, each later row under an earlier one that is no sink, and
 -- a row under each that is no sink. Assumes nothing.
-use mathlib.Core.Path.{_≡_, refl, sym, ap, _∙_}
-use mathlib.Core.Bool.{Bool, true, false, cond, not, _&&_, _||_}
+use mathlib.Core.Path.{_≡_, refl, ap}
+use mathlib.Core.Bool.{Bool, true, false, not, _||_}
 use mathlib.Core.List.{List, [], _∷_, _++_}
-use mathlib.Core.Logic.{_≢_, _⊎_, inl, inr, ⊎-elim}
+use mathlib.Core.Logic.{_≢_}
 use mathlib.Core.Option.{Option, none, some, Option·some-ne-none}
 use Prim.Native.Nat.{ℕ, zero, suc, _+_, _≤_, _<_}
 use native.Mathlib.Omega.{arith}
-use native.Mathlib.Numerals.{add-one}
-use lib.Dec.{T, T-not, not-T, eqb, eqb→eq, eqb-refl}
-use lib.ListN.{length, length-append, getD, drop}
-use lib.Seq.{getD-drop}
-use Rattle.rules.specs.declared.Kind.{Kind}
-use Rattle.rules.specs.declared.Kind.the-variants.{Driver, Point, Sink}
+use lib.Dec.{T, T-not, eqb}
+use lib.ListN.{length, length-append, drop}
 use Rattle.rules.specs.declared.Row.{Row}
-use Rattle.rules.specs.Lists.{All, nil, cons, orElse, when}
-use Rattle.rules.specs.Quantities.{mostOhms, typesRoom, rowsRoom, sitesRoom}
+use Rattle.rules.specs.Lists.{All, nil, cons}
+use Rattle.rules.specs.Quantities.{typesRoom, rowsRoom, sitesRoom}
 use Rattle.rules.specs.Entries.{Entry, Repeater, typesOf, rowsOf, rowOf, siteCount, sitesOf}
 use Rattle.rules.specs.Refusals.{some?, isSink, noParent, under, childless, childlessAt, lastRefusal, refusalOf}
 use Rattle.rules.specs.Net.{driverOhms}
-use Rattle.rules.specs.Slack.{typeOf}
-use Rattle.laws.specs.Lists.{all-++, all-head, all-tail}
+use Rattle.laws.specs.Tests.{not-or, neither, other, passes}
+use Rattle.laws.specs.Lists.{all-++}
 use Rattle.laws.specs.Ranges.{RepeaterInRange}
-use Rattle.laws.specs.Taken.{passes, not-or, isDriver, KindIn, RowIn, driverRow, Further, Taken, nothing, a-type, the-driver, a-row, taken}
+use Rattle.laws.specs.Taken.{isDriver, RowIn, driverRow, Taken, nothing, a-type, the-driver, a-row, taken}
 
 -- ---- over the rows that are numbered from i on
 -- each is under an earlier row, and is no driver
@@ -74,13 +70,6 @@ earlier-snoc i (y ∷ rows) x (a, b, e) h k = (a, b, earlier-snoc (i + 1) rows x
 abbrev Bare : (i : ℕ) → List Row → Type 0
 Bare i [] = Unit {0}
 Bare i (x ∷ rows) = (T (isSink (x .kind)) → T (not (under i rows))) × Bare (i + 1) rows
-
-other : {m n : ℕ} → m ≢ n → T (not (eqb m n))
-other {m} {n} h = not-T (eqb m n) (λ t. h (eqb→eq m n t))
-
-neither : (a b : Bool) → T (not a) → T (not b) → T (not (a || b))
-neither true b h k = h
-neither false b h k = k
 
 under-snoc : (i : ℕ) (rows : List Row) (x : Row) → T (not (under i rows)) → x .parent ≢ i → T (not (under i (rows ++ (x ∷ []))))
 under-snoc i [] x h k = neither (eqb (x .parent) i) false (other k) tt

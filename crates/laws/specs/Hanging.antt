@@ -1,41 +1,26 @@
 -- What hangs under a row: how it is made row by row, and that its sites have numbers of their own. Assumes nothing.
 use mathlib.Core.Path.{_≡_, refl, sym, _∙_}
-use mathlib.Core.Bool.{Bool, true, false, cond, not, _||_}
+use mathlib.Core.Bool.{Bool, true, false, cond}
 use mathlib.Core.List.{List, [], _∷_}
 use mathlib.Core.Logic.{_≢_, _⊎_, inl, inr, ⊎-elim}
 use mathlib.Core.Option.{Option, none, some}
 use Prim.Native.Nat.{ℕ, zero, suc, _+_, _≤_, _<_}
 use native.Mathlib.Omega.{arith}
-use lib.Dec.{T, not-T, eqb, eqb→eq, eqb-refl}
+use lib.Dec.{T, eqb, eqb→eq}
 use lib.ListN.{length, getD, take, drop}
 use Rattle.rules.specs.declared.Kind.{Kind}
 use Rattle.rules.specs.declared.Kind.the-variants.{Driver, Point, Sink}
 use Rattle.rules.specs.declared.Row.{Row}
 use Rattle.rules.specs.Entries.{siteCount, sitesOf}
-use Rattle.rules.specs.Net.{Wire, Tree, sink, site, wire, both, wireOf, sited, seen, wired, beside, hangs, at, atRow}
+use Rattle.rules.specs.Net.{Wire, Tree, sink, site, wireOf, sited, seen, wired, beside, hangs, at, atRow}
 use Rattle.rules.specs.Pairs.{On}
+use Rattle.laws.specs.Tests.{same, other, cond-yes, cond-no}
 use Rattle.laws.specs.Method.{Proper}
 use Rattle.laws.specs.Taken.{driverRow}
 
 -- a row with its wire, over what hangs under it
 abbrev pub hung : Row → (k : ℕ) → (below : Option Tree) → Option Tree
 hung x k below = wired (wireOf x) (seen (x .site) (x .kind) k below)
-
--- ---- the steps
-pub same : {m n : ℕ} → m ≡ n → T (eqb m n)
-same {m} {n} e = rw e (eqb-refl n)
-
-pub other : {m n : ℕ} → m ≢ n → T (not (eqb m n))
-other {m} {n} h = not-T (eqb m n) (λ t. h (eqb→eq m n t))
-
--- a test that passes, and one that does not
-pub cond-yes : {A : Type 0} (b : Bool) (a c : A) → T b → cond b a c ≡ a
-cond-yes true a c t = refl
-cond-yes false a c t = absurd t
-
-pub cond-no : {A : Type 0} (b : Bool) (a c : A) → T (not b) → cond b a c ≡ c
-cond-no true a c t = absurd t
-cond-no false a c t = refl
 
 pub hangs-end : (i k r : ℕ) → hangs i k [] r ≡ none
 unfolding hangs

@@ -1,34 +1,29 @@
 -- A placement is legal on an accepted net when refusal 6 does not apply to it. Assumes nothing.
 use mathlib.Core.Path.{_≡_, refl, sym, _∙_}
-use mathlib.Core.Bool.{Bool, true, false, cond, not}
 use mathlib.Core.List.{List}
 use mathlib.Core.Logic.{_↔_}
-use mathlib.Core.Option.{Option, none, some, Option·some-ne-none}
-use Prim.Native.Nat.{ℕ, zero, suc, _+_, _*_, _/_, _%_, _^_, _≤_, _<_, min}
+use mathlib.Core.Option.{none, some}
+use Prim.Native.Nat.{ℕ, zero, suc, _+_, _/_, _≤_, _<_}
 use native.Mathlib.Omega.{arith}
 use native.Mathlib.Nat.{zero-div}
 use native.Mathlib.Decide.{ℕ-discrete, decLt}
-use lib.Dec.{T, ltb, not-T, ltb→lt, lt→ltb, nltb→le}
+use lib.Dec.{ltb, lt→ltb, nltb→le}
 use lib.ListN.{length, length-take, getD, take, List·getD-eq-default}
-use Rattle.rules.specs.declared.Refusal.{Refusal}
-use Rattle.rules.specs.Lists.{orElse, when}
-use Rattle.rules.specs.Quantities.{placementRoom, sitesRoom}
-use Rattle.rules.specs.Entries.{Entry, Repeater, typesOf, rowsOf, sitesOf}
+use Rattle.rules.specs.Quantities.{sitesRoom}
+use Rattle.rules.specs.Entries.{Entry, typesOf, rowsOf, sitesOf}
 use Rattle.rules.specs.Placements.{Placement, markIn, marks, markRefusal, marksFrom, placementRefusal}
 use Rattle.rules.specs.Net.{Tree, atRow}
 use Rattle.rules.specs.Pairs.{On, Legal}
-use Rattle.laws.specs.Taken.{passed}
+
+use Rattle.laws.specs.Tests.{no-more, cond-yes, cond-no, passed, none-both, none-either}
 use Rattle.laws.specs.Accepted.{Accepted}
-use Rattle.laws.specs.Hanging.{cond-yes, cond-no}
+
 use Rattle.laws.specs.Whole.{driver-sites}
 
 -- a site's mark is a type that there is, and nothing past the last site
 record Marked (types sites j mark : ℕ) : Type 0 where
   known : j < sites → mark ≤ types
   past : sites ≤ j → mark ≡ 0
-
-no-more : (n m : ℕ) → m ≤ n → T (not (ltb n m))
-no-more n m h = not-T (ltb n m) (λ t. omega (arith, ltb→lt n m t))
 
 module _ (es : List Entry) (p : Placement) where
   abbrev MarkOk : ℕ → Type 0
@@ -48,13 +43,6 @@ module _ (es : List Entry) (p : Placement) where
       go : Dec (j < sitesOf (rowsOf es)) → markRefusal es p j ≡ none
       go (yes h) = cond-yes (ltb j (sitesOf (rowsOf es))) _ _ (lt→ltb j (sitesOf (rowsOf es)) h) ∙ cond-no (ltb (length (typesOf es)) (p j)) _ _ (no-more (length (typesOf es)) (p j) (m .known h))
       go (no h) = cond-no (ltb j (sitesOf (rowsOf es))) _ _ (no-more j (sitesOf (rowsOf es)) (omega arith)) ∙ cond-no (ltb 0 (p j)) _ _ (no-more 0 (p j) (omega (arith, m .past (omega arith))))
-
-  none-both : {A : Type 0} (a b : Option A) → orElse a b ≡ none → (a ≡ none) × (b ≡ none)
-  none-both none b e = (refl, e)
-  none-both (some x) b e = absurd (Option·some-ne-none x e)
-
-  none-either : {A : Type 0} {a b : Option A} → a ≡ none → b ≡ none → orElse a b ≡ none
-  none-either h k = rw h k
 
   marks-ok : (j n : ℕ) → marksFrom es p j n ≡ none → (i : ℕ) → j ≤ i → i < j + n → MarkOk i
   unfolding marksFrom

@@ -1,5 +1,6 @@
 pub mod Integers
 pub mod Lists
+pub mod Tests
 pub mod Candidates
 pub mod Thinning
 pub mod Steps

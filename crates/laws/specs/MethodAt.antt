@@ -1,6 +1,6 @@
 -- The method at every row of an accepted net: its list is the front of what legal placements reach there, and at the driver there is a
 -- planned placement. Assumes nothing.
-use mathlib.Core.Path.{_≡_, refl, subst}
+use mathlib.Core.Path.{_≡_, subst}
 use mathlib.Core.List.{List, [], _∷_}
 use mathlib.Core.Option.{some}
 use Prim.Native.Nat.{ℕ, _+_, _*_, _≤_, _<_}
@@ -15,8 +15,7 @@ use Rattle.rules.specs.Entries.{Repeater}
 use Rattle.rules.specs.Placements.{Placement}
 use Rattle.rules.specs.Net.{Tree, atRow, driverOhms}
 use Rattle.rules.specs.Pairs.{sitesOn, Planned}
-use Rattle.laws.specs.Candidates.{Cand, Covers, Front}
-use Rattle.laws.specs.Steps.{value, best}
+use Rattle.laws.specs.Candidates.{Cand, Front}
 use Rattle.laws.specs.Method.{Proper, Reaches, candOf, reaches, empty-legal, frontOf, method, planned}
 use Rattle.laws.specs.Bounds.{reached-length}
 use Rattle.laws.specs.Accepted.{Accepted}

@@ -15,10 +15,11 @@ use Rattle.rules.specs.declared.Row.{Row}
 use Rattle.rules.specs.Quantities.{workRoom}
 use Rattle.rules.specs.Entries.{Repeater, siteCount}
 use Rattle.rules.specs.Refusals.{isSink}
-use Rattle.rules.specs.Net.{Wire, Tree, sink, site, wire, both, wireOf, sited, seen, wired, beside, hangs, atRow}
+use Rattle.rules.specs.Net.{Wire, Tree, site, wireOf, sited, seen, wired, beside, hangs, atRow}
 use Rattle.rules.specs.Pairs.{sitesOn}
+use Rattle.laws.specs.Tests.{same}
 use Rattle.laws.specs.Accepted.{Accepted}
-use Rattle.laws.specs.Hanging.{hung, same}
+use Rattle.laws.specs.Hanging.{hung}
 use Rattle.laws.specs.Sums.{over}
 use Rattle.laws.specs.Within.{within-at}
 

@@ -1,21 +1,21 @@
 -- The rows of an accepted net, one by one by their numbers, and those from a number on. Assumes nothing.
-use mathlib.Core.Path.{_≡_, refl, sym, ap, _∙_, subst}
-use mathlib.Core.Bool.{Bool, true, false, cond, not, _||_}
+use mathlib.Core.Path.{_≡_, refl, ap}
+use mathlib.Core.Bool.{not}
 use mathlib.Core.List.{List, [], _∷_}
-use mathlib.Core.Logic.{_⊎_, inl, inr, ⊎-elim}
+use mathlib.Core.Logic.{⊎-elim}
 use Prim.Native.Nat.{ℕ, zero, suc, _+_, _-_, _≤_, _<_}
 use native.Mathlib.Omega.{arith}
 use native.Mathlib.Numerals.{add-one}
-use native.Mathlib.Decide.{ℕ-discrete}
-use lib.Dec.{T, T-not, eqb, eqb→eq, eqb-refl}
+use lib.Dec.{T, eqb, eqb→eq, eqb-refl}
 use lib.ListN.{length, length-drop, getD, drop}
 use lib.Seq.{getD-drop}
 use Rattle.rules.specs.declared.Row.{Row}
 use Rattle.rules.specs.Lists.{All, nil, cons}
-use Rattle.rules.specs.Entries.{Repeater, rowOf, siteCount, sitesOf}
+use Rattle.rules.specs.Entries.{Repeater, rowOf, sitesOf}
 use Rattle.rules.specs.Refusals.{isSink, under}
 use Rattle.rules.specs.Net.{driverOhms}
 use Rattle.rules.specs.Slack.{typeOf}
+use Rattle.laws.specs.Tests.{or-left, or-right, either}
 use Rattle.laws.specs.Ranges.{RepeaterInRange}
 use Rattle.laws.specs.Taken.{isDriver, RowIn, driverRow}
 use Rattle.laws.specs.Accepted.{Earlier, Standing, Accepted}
@@ -62,18 +62,6 @@ standing-get : (d : Row) (i j : ℕ) (rows : List Row) → Standing i rows → j
 standing-get d i j [] s h = absurd (omega arith)
 standing-get d i zero (x ∷ rows) (a, s) h = let z : i + 0 ≡ i = omega arith in rw z a
 standing-get d i (suc j) (x ∷ rows) (a, s) h = let z : i + suc j ≡ i + 1 + j = omega arith in rw z (standing-get d (i + 1) j rows s (omega arith))
-
-or-right : (a b : Bool) → T b → T (a || b)
-or-right true b h = tt
-or-right false b h = h
-
-or-left : (a b : Bool) → T a → T (a || b)
-or-left true b h = tt
-or-left false b h = absurd h
-
-either : (a b : Bool) → T (a || b) → (T a) ⊎ (T b)
-either true b h = inl tt
-either false b h = inr h
 
 under-get : (d : Row) (j : ℕ) (rows : List Row) → j < length rows → T (under (getD rows j d .parent) rows)
 under-get d j [] h = absurd (omega arith)

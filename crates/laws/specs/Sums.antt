@@ -18,8 +18,9 @@ use Rattle.rules.specs.declared.Row.{Row}
 use Rattle.rules.specs.Entries.{siteCount, sitesOf}
 use Rattle.rules.specs.Net.{Wire, Tree, sink, site, wire, both, wireOf, sited, seen, wired, beside, hangs}
 use Rattle.rules.specs.Pairs.{sitesOn}
+use Rattle.laws.specs.Tests.{other}
 use Rattle.laws.specs.Ranges.{weight, stages}
-use Rattle.laws.specs.Hanging.{hung, other}
+use Rattle.laws.specs.Hanging.{hung}
 
 -- ---- sums
 unfoldable pub sumTo : (ℕ → ℕ) → ℕ → ℕ

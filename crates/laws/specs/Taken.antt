@@ -1,13 +1,11 @@
 -- What one line more adds to a net that was not refused so far, and so what the types and rows are made of when no line is. Assumes
 -- nothing.
-use mathlib.Core.Path.{_≡_, refl, sym, ap, _∙_}
-use mathlib.Core.Bool.{Bool, true, false, cond, not, _&&_, _||_}
+use mathlib.Core.Path.{_≡_, refl}
+use mathlib.Core.Bool.{Bool, true, false, not}
 use mathlib.Core.List.{List, [], _∷_, _++_, append-nil}
 use mathlib.Core.Option.{Option, none, some, Option·some-ne-none}
-use Prim.Native.Nat.{ℕ, zero, suc, _+_, _≤_, _<_}
-use native.Mathlib.Omega.{arith}
+use Prim.Native.Nat.{ℕ, _≤_, _<_}
 use lib.Dec.{T, leb, ltb, eqb, nltb→le, nleb→lt}
-use lib.IntN.{ℤ}
 use lib.ListN.{length}
 use lib.Seq.{append-snoc}
 use lib.Signed.{_≤ℤ_, ltZ, ltZ-no}
@@ -15,29 +13,12 @@ use Rattle.rules.specs.declared.Kind.{Kind}
 use Rattle.rules.specs.declared.Kind.the-variants.{Driver, Point, Sink}
 use Rattle.rules.specs.declared.Refusal.{Refusal}
 use Rattle.rules.specs.declared.Row.{Row}
-use Rattle.rules.specs.Lists.{orElse, when}
-use Rattle.rules.specs.Quantities.{mostOhms, mostFemtofarads, mostOwn, earliestDue, latestDue, mostParent, mostSite, typesRoom, rowsRoom, sitesRoom}
+use Rattle.rules.specs.Lists.{orElse}
+use Rattle.rules.specs.Quantities.{mostOhms, mostFemtofarads, mostOwn, earliestDue, latestDue, mostParent, typesRoom, rowsRoom, sitesRoom}
 use Rattle.rules.specs.Entries.{Entry, type, driver, point, sink, malformed, beyond, Repeater, typesOf, rowsOf, rowOf, sitesOf}
 use Rattle.rules.specs.Refusals.{some?, misplaced, wireOut, outOfRange, rowTooMany, tooMany, noParent, orphan, lineRefusal, lastRefusal, firstRefusal, refusalOf}
+use Rattle.laws.specs.Tests.{not-or, not-and, not-not, passes, passed}
 use Rattle.laws.specs.Ranges.{RepeaterInRange}
-
--- ---- tests
-pub not-or : (a b : Bool) → T (not (a || b)) → T (not a) × T (not b)
-not-or true b h = absurd h
-not-or false b h = (tt, h)
-
-pub not-and : (a b : Bool) → T (not (a && b)) → T a → T (not b)
-not-and true b h t = h
-not-and false b h t = absurd t
-
--- a test that refuses did not, and nothing behind it does
-pub passes : {A : Type 0} (b : Bool) (a : A) (rest : Option A) → orElse (when b a) rest ≡ none → T (not b) × (rest ≡ none)
-passes true a rest e = absurd (Option·some-ne-none a e)
-passes false a rest e = (tt, e)
-
-pub passed : {A : Type 0} (b : Bool) (a : A) → when b a ≡ none → T (not b)
-passed true a e = Option·some-ne-none a e
-passed false a e = tt
 
 -- ---- ranges
 abbrev pub isDriver : Kind → Bool
@@ -112,10 +93,6 @@ fine before e h =
     let (b, h) = passes (outOfRange e) _ _ h in
     let (c, h) = passes (tooMany before e) _ _ h in
     record { placed = a; inside = b; few = c; parent = passed (orphan before e) _ h }
-
-not-not : (b : Bool) → T (not (not b)) → T b
-not-not true h = tt
-not-not false h = h
 
 no-rows : (rows : List Row) → T (not (some? rows)) → rows ≡ []
 no-rows [] h = refl

@@ -1,34 +1,25 @@
 -- The room: while the rows are taken, whatever their order, the lists that wait hold at most 511 candidates and the one being made
 -- 257. Over all rows at once, and as what each step of the recursion hands to the next. Assumes nothing.
-use mathlib.Core.Path.{_≡_, refl, sym, ap, _∙_, subst}
-use mathlib.Core.Bool.{Bool, true, false, cond, not}
-use mathlib.Core.List.{List, [], _∷_}
+use mathlib.Core.Path.{_≡_, subst}
+use mathlib.Core.List.{List}
 use mathlib.Core.Option.{Option, none, some}
 use Prim.Native.Nat.{ℕ, zero, suc, _+_, _*_, _≤_, _<_}
 use native.Mathlib.Omega.{arith}
-use native.Mathlib.Nat.{mul-le-mul, mul-le-mul-left}
-use native.Mathlib.Decide.{ℕ-discrete}
-use lib.Dec.{T, eqb}
-use lib.IntN.{ℤ}
-use lib.ListN.{length, length-drop, getD, take, drop}
-use lib.Seq.{drop-cons}
-use Rattle.rules.specs.declared.Kind.{Kind}
-use Rattle.rules.specs.declared.Kind.the-variants.{Driver, Point, Sink}
+use native.Mathlib.Nat.{mul-le-mul}
+use lib.ListN.{length, length-drop, drop}
 use Rattle.rules.specs.declared.Row.{Row}
 use Rattle.rules.specs.Quantities.{listRoom, workRoom}
-use Rattle.rules.specs.Entries.{Repeater, siteCount, sitesOf}
+use Rattle.rules.specs.Entries.{Repeater, sitesOf}
 use Rattle.rules.specs.Placements.{Placement}
-use Rattle.rules.specs.Refusals.{isSink}
-use Rattle.rules.specs.Net.{Wire, Tree, sink, site, wire, both, wireOf, sited, seen, wired, beside, hangs, atRow}
+use Rattle.rules.specs.Net.{Tree, site, wire, both, hangs, atRow}
 use Rattle.rules.specs.Pairs.{sitesOn}
 use Rattle.laws.specs.Candidates.{Cand, Front}
 use Rattle.laws.specs.Method.{Proper, Reaches}
 use Rattle.laws.specs.Bounds.{reached-length}
-use Rattle.laws.specs.Taken.{driverRow}
 use Rattle.laws.specs.Accepted.{Accepted}
-use Rattle.laws.specs.Rows.{sites-few-from, sites-drop}
-use Rattle.laws.specs.Hanging.{hung, ProperIf, Parted, hangs-parted, hangs-taken, hangs-passed, atRow-is, at-proper, same}
-use Rattle.laws.specs.Sums.{sumTo, over, Measure, hangs-sum, seen-over, hangs-over, measure-sites}
+use Rattle.laws.specs.Rows.{sites-few-from}
+use Rattle.laws.specs.Hanging.{ProperIf, hangs-parted, at-proper}
+use Rattle.laws.specs.Sums.{sumTo, over, Measure, hangs-sum}
 use Rattle.laws.specs.Within.{Within, within-at}
 
 -- ---- over all rows at once

@@ -5,23 +5,23 @@ use mathlib.Core.Bool.{Bool, true, false, cond, not, _||_, true≢false, false�
 use mathlib.Core.List.{List, [], _∷_}
 use mathlib.Core.Logic.{_↔_, inl, inr}
 use mathlib.Core.Option.{Option, none, some}
-use Prim.Native.Nat.{ℕ, zero, suc, _+_, _≤_, _<_}
+use Prim.Native.Nat.{ℕ, suc, _+_, _≤_, _<_}
 use native.Mathlib.Omega.{arith}
 use native.Mathlib.Decide.{ℕ-discrete, decLt}
-use lib.Dec.{T, eqb, eqb→eq, eqb-refl}
+use lib.Dec.{T, eqb, eqb-refl}
 use lib.ListN.{length, getD, take, drop}
 use Rattle.rules.specs.declared.Kind.{Kind}
 use Rattle.rules.specs.declared.Kind.the-variants.{Driver, Point, Sink}
 use Rattle.rules.specs.declared.Row.{Row}
 use Rattle.rules.specs.Entries.{Repeater, rowOf, siteCount, sitesOf}
 use Rattle.rules.specs.Refusals.{isSink, under}
-use Rattle.rules.specs.Net.{Wire, Tree, sink, site, wire, both, wireOf, sited, seen, wired, beside, hangs, at, atRow, driverOhms}
+use Rattle.rules.specs.Net.{Wire, Tree, sink, site, wireOf, sited, seen, wired, beside, hangs, at, atRow, driverOhms}
 use Rattle.rules.specs.Pairs.{On}
 use Rattle.laws.specs.Method.{Proper}
 use Rattle.laws.specs.Taken.{driverRow}
 use Rattle.laws.specs.Accepted.{Earlier, Standing, Accepted}
 use Rattle.laws.specs.Rows.{standing-at, standing-from}
-use Rattle.laws.specs.Hanging.{hung, OnIf, ProperIf, Parted, hangs-parted, atRow-is, at-here, at-proper}
+use Rattle.laws.specs.Hanging.{hung, OnIf, ProperIf, hangs-parted, atRow-is, at-proper}
 
 -- something is there
 abbrev pub there : Option Tree → Bool

@@ -1,13 +1,12 @@
 -- Of an accepted net, what hangs under a row or is at one is within the ranges: its numbers, how many wires, pins and sites it has, and
 -- so its loads, times and slack. Assumes nothing.
-use mathlib.Core.Path.{_≡_, refl, sym, subst}
+use mathlib.Core.Path.{_≡_, subst}
 use mathlib.Core.Bool.{Bool, true, false, cond}
 use mathlib.Core.List.{List, [], _∷_}
 use mathlib.Core.Option.{Option, none, some}
-use Prim.Native.Nat.{ℕ, zero, suc, _+_, _*_, _≤_, _<_}
+use Prim.Native.Nat.{ℕ, suc, _+_, _*_, _≤_, _<_}
 use native.Mathlib.Omega.{arith}
-use native.Mathlib.Numerals.{add-one}
-use lib.Dec.{T, eqb}
+use lib.Dec.{eqb}
 use lib.IntN.{ℤ}
 use lib.ListN.{length, length-drop, getD, take, drop}
 use lib.Seq.{drop-cons}
@@ -15,12 +14,12 @@ use lib.Signed.{_≤ℤ_}
 use Rattle.rules.specs.declared.Kind.{Kind}
 use Rattle.rules.specs.declared.Kind.the-variants.{Driver, Point, Sink}
 use Rattle.rules.specs.declared.Row.{Row}
-use Rattle.rules.specs.Lists.{All, nil, cons}
+use Rattle.rules.specs.Lists.{All, cons}
 use Rattle.rules.specs.Quantities.{_⊖_, mostLoad, leastSlack, mostSlack}
 use Rattle.rules.specs.Entries.{Repeater, siteCount, sitesOf}
 use Rattle.rules.specs.Placements.{Placement}
-use Rattle.rules.specs.Net.{Wire, Tree, sink, site, wire, both, wireOf, sited, seen, wired, beside, hangs, atRow, driverOhms}
-use Rattle.rules.specs.Slack.{load, slacks, IsSlack}
+use Rattle.rules.specs.Net.{Wire, Tree, sink, site, wireOf, sited, seen, wired, beside, hangs, atRow, driverOhms}
+use Rattle.rules.specs.Slack.{load, IsSlack}
 use Rattle.rules.specs.Pairs.{sitesOn, Pair, Legal, PairOf}
 use Rattle.laws.specs.Integers.{times, ⊖-read}
 use Rattle.laws.specs.Trees.{time, time-is, slack-is, least-unique}
@@ -29,7 +28,7 @@ use Rattle.laws.specs.Taken.{RowIn, KindIn, driverRow}
 use Rattle.laws.specs.Accepted.{Accepted}
 use Rattle.laws.specs.Rows.{rows-in-from, sites-few-from, type-in, driver-in}
 use Rattle.laws.specs.Hanging.{hung, atRow-is}
-use Rattle.laws.specs.Sums.{Measure, over, measure-sites, measure-weight, measure-stages, seen-over, hung-over, hangs-over}
+use Rattle.laws.specs.Sums.{over, measure-sites, measure-weight, measure-stages, seen-over, hung-over, hangs-over}
 
 -- ---- numbers
 abbrev pub InIf : Option Tree → Type 0
