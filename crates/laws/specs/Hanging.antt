@@ -22,6 +22,7 @@ use Rattle.laws.specs.Taken.{driverRow}
 abbrev pub hung : Row → (k : ℕ) → (below : Option Tree) → Option Tree
 hung x k below = wired (wireOf x) (seen (x .site) (x .kind) k below)
 
+-- of no rows nothing hangs
 pub hangs-end : (i k r : ℕ) → hangs i k [] r ≡ none
 unfolding hangs
 hangs-end i k r = refl
@@ -37,16 +38,18 @@ module _ (i k : ℕ) (x : Row) (rows : List Row) (r : ℕ) where
   unfolding hangs
   hangs-passed e = cond-no (eqb (x .parent) r) _ _ (other e)
 
+  -- what is at the row asked for
   pub at-here : i ≡ r → at i k (x ∷ rows) r ≡ seen (x .site) (x .kind) k (hangs (i + 1) (k + siteCount (x .site)) rows i)
   unfolding at
   at-here e = cond-yes (eqb i r) _ _ (same e)
 
+  -- any other row is passed
   pub at-later : i ≢ r → at i k (x ∷ rows) r ≡ at (i + 1) (k + siteCount (x .site)) rows r
   unfolding at
   at-later e = cond-no (eqb i r) _ _ (other e)
 
 at-is : (d : Row) (i k j : ℕ) (rows : List Row) → j < length rows
-    → at i k rows (i + j) ≡ seen (getD rows j d .site) (getD rows j d .kind) (k + sitesOf (take j rows)) (hangs (i + j + 1) (k + sitesOf (take j rows) + siteCount (getD rows j d .site)) (drop (suc j) rows) (i + j))
+    → at i k rows (i + j) ≡ seen (getD rows j d .site) (getD rows j d .kind) (k + sitesOf (take j rows)) (hangs (i + j + 1) (k + sitesOf (take j rows) + siteCount (getD rows j d .site)) (drop (j + 1) rows) (i + j))
 unfolding sitesOf
 at-is d i k j [] h = absurd (omega arith)
 at-is d i k zero (x ∷ rows) h =
@@ -56,11 +59,12 @@ at-is d i k zero (x ∷ rows) h =
 at-is d i k (suc j) (x ∷ rows) h =
     let z : i + suc j ≡ i + 1 + j = omega arith in
     let y : k + (siteCount (x .site) + sitesOf (take j rows)) ≡ k + siteCount (x .site) + sitesOf (take j rows) = omega arith in
-    at-later i k x rows (i + suc j) (omega arith) ∙ rw (z, y) (at-is d (i + 1) (k + siteCount (x .site)) j rows (omega arith))
+    let w : suc j + 1 ≡ suc (j + 1) = omega arith in
+    at-later i k x rows (i + suc j) (omega arith) ∙ rw (z, y, w) (at-is d (i + 1) (k + siteCount (x .site)) j rows (omega arith))
 
 -- what is at row r: the row, its site numbered behind those before it, over what hangs under it
 pub atRow-is : (d : Row) (rows : List Row) (r : ℕ) → r < length rows
-    → atRow rows r ≡ seen (getD rows r d .site) (getD rows r d .kind) (sitesOf (take r rows)) (hangs (r + 1) (sitesOf (take r rows) + siteCount (getD rows r d .site)) (drop (suc r) rows) r)
+    → atRow rows r ≡ seen (getD rows r d .site) (getD rows r d .kind) (sitesOf (take r rows)) (hangs (r + 1) (sitesOf (take r rows) + siteCount (getD rows r d .site)) (drop (r + 1) rows) r)
 unfolding atRow
 atRow-is d rows r h =
     let z : 0 + r ≡ r = omega arith in
@@ -68,7 +72,7 @@ atRow-is d rows r h =
     rw (z, y) at (at-is d 0 0 r rows h)
 
 -- ---- the sites
--- of what may not be there
+-- of a tree that may not be there
 abbrev pub OnIf : Option Tree → (j : ℕ) → Type 0
 OnIf none j = ⊥
 OnIf (some t) j = On t j
@@ -180,4 +184,4 @@ hung-distinct i k x rows r j = hung-apart i k (sitesOf rows) x (hangs (i + 1) (k
 
 -- no row's tree has a site twice
 pub at-proper : (rows : List Row) (r : ℕ) → r < length rows → ProperIf (atRow rows r)
-at-proper rows r h = rw (atRow-is (driverRow 0) rows r h) (seen-distinct r (sitesOf (take r rows)) (getD rows r (driverRow 0)) (drop (suc r) rows))
+at-proper rows r h = rw (atRow-is (driverRow 0) rows r h) (seen-distinct r (sitesOf (take r rows)) (getD rows r (driverRow 0)) (drop (r + 1) rows))

@@ -14,10 +14,8 @@ use Rattle.rules.specs.Entries.{Entry, typesOf, rowsOf, sitesOf}
 use Rattle.rules.specs.Placements.{Placement, markIn, marks, markRefusal, marksFrom, placementRefusal}
 use Rattle.rules.specs.Net.{Tree, atRow}
 use Rattle.rules.specs.Pairs.{On, Legal}
-
 use Rattle.laws.specs.Tests.{no-more, cond-yes, cond-no, passed, none-both, none-either}
 use Rattle.laws.specs.Accepted.{Accepted}
-
 use Rattle.laws.specs.Whole.{driver-sites}
 
 -- a site's mark is a type that there is, and nothing past the last site

@@ -1,6 +1,6 @@
 -- The method at every row of an accepted net: its list is the front of what legal placements reach there, and at the driver there is a
 -- planned placement. Assumes nothing.
-use mathlib.Core.Path.{_≡_, subst}
+use mathlib.Core.Path.{_≡_}
 use mathlib.Core.List.{List, [], _∷_}
 use mathlib.Core.Option.{some}
 use Prim.Native.Nat.{ℕ, _+_, _*_, _≤_, _<_}
@@ -21,7 +21,7 @@ use Rattle.laws.specs.Bounds.{reached-length}
 use Rattle.laws.specs.Accepted.{Accepted}
 use Rattle.laws.specs.Rows.{rows-two}
 use Rattle.laws.specs.Whole.{tree-at}
-use Rattle.laws.specs.Within.{Within, within-at}
+use Rattle.laws.specs.Within.{within-tree}
 
 some-there : {A : Type 0} {P : A → Type 0} {l : List A} → Any P l → 1 ≤ length l
 some-there (here h) = omega arith
@@ -52,7 +52,7 @@ module _ {types : List Repeater} {rows : List Row} (ok : Accepted types rows) wh
       let (t, e, p) = tree-at ok r h in
       let F = method types t p in
       let short = reached-length types t (frontOf types t) p F in
-      let w : Within (some t) = subst (λ u. Within u) e (within-at ok r h) in
+      let w = within-tree ok r h t e in
       record { tree = t; tree-is = e; proper = p; front = F; short = short; room = omega (arith, short, mul-le-mul (ok .types-few) (w .few)) }
 
   -- a planned placement exists

@@ -115,5 +115,5 @@ room-site zero at left k t m n s h g = omega arith
 room-site (suc types) at left k t m n s h g = omega (arith, mul-le-mul n s)
 
 -- an accepted net has it at every row
-pub room-at : {types : List Repeater} {rows : List Row} → Accepted types rows → (r : ℕ) → r < length rows → HasRoom (length types) 0 (length (drop (suc r) rows)) (atRow rows r)
-room-at {rows = rows} ok r h = omega (arith, length-drop (suc r) rows, ok .rows-few, mul-le-mul (ok .types-few) (within-at ok r h .few))
+pub room-at : {types : List Repeater} {rows : List Row} → Accepted types rows → (r : ℕ) → r < length rows → HasRoom (length types) 0 (length (drop (r + 1) rows)) (atRow rows r)
+room-at {rows = rows} ok r h = omega (arith, length-drop (r + 1) rows, ok .rows-few, mul-le-mul (ok .types-few) (within-at ok r h .few))

@@ -31,7 +31,7 @@ all-get d nil i h = absurd (omega arith)
 all-get d (cons p t) zero h = p
 all-get d (cons p t) (suc i) h = all-get d t i (omega arith)
 
-pub sites-drop : (i : ℕ) (rows : List Row) → sitesOf (drop i rows) ≤ sitesOf rows
+sites-drop : (i : ℕ) (rows : List Row) → sitesOf (drop i rows) ≤ sitesOf rows
 unfolding sitesOf
 sites-drop zero rows = omega arith
 sites-drop (suc i) [] = omega arith
@@ -83,17 +83,20 @@ unfolding typeOf
 types-get types h n k = all-get _ h n k
 
 module _ {types : List Repeater} {rows : List Row} (ok : Accepted types rows) where
-  -- the rows from number i on
+  -- the rows from number i on: each row's numbers in their ranges
   pub rows-in-from : (i : ℕ) → All RowIn (drop i rows)
   rows-in-from i = all-drop i (ok .rows-in)
 
+  -- each under an earlier one, and no driver
   pub earlier-from : (i : ℕ) → 1 ≤ i → Earlier i (drop i rows)
   earlier-from zero h = absurd (omega arith)
   earlier-from (suc i) h = let z : 1 + i ≡ suc i = omega arith in rw (z, drop-one) at (earlier-drop 1 i (drop 1 rows) (ok .earlier))
 
+  -- one under each that is no sink, and none under a sink
   pub standing-from : (i : ℕ) → Standing i (drop i rows)
   standing-from i = let z : 0 + i ≡ i = omega arith in rw z at (standing-drop 0 i rows (ok .standing))
 
+  -- with at most 64 sites
   pub sites-few-from : (i : ℕ) → sitesOf (drop i rows) ≤ 64
   sites-few-from i = omega (arith, sites-drop i rows, ok .sites-few)
 
@@ -121,10 +124,10 @@ module _ {types : List Repeater} {rows : List Row} (ok : Accepted types rows) wh
       (suc i + j, omega arith, omega (arith, length-drop (suc i) rows), rw getD-drop at e)
 
   -- a row stands under row i where it is no sink, and only there
-  pub standing-at : (d : Row) (i : ℕ) → i < length rows → Standing (i + 1) (drop (suc i) rows) × (under i (drop (suc i) rows) ≡ not (isSink (getD rows i d .kind)))
+  pub standing-at : (d : Row) (i : ℕ) → i < length rows → under i (drop (i + 1) rows) ≡ not (isSink (getD rows i d .kind))
   standing-at d i h =
       let z : 0 + i ≡ i = omega arith in
-      (rw add-one (standing-from (suc i)), rw z at (standing-get d 0 i rows (ok .standing) h))
+      rw add-one (rw z at (standing-get d 0 i rows (ok .standing) h))
 
   row-later : (d : Row) (i : ℕ) → 1 ≤ i → i < length rows → (getD rows i d .parent < i) × T (not (isDriver (getD rows i d .kind)))
   row-later d zero h k = absurd (omega arith)

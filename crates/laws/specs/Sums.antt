@@ -65,6 +65,7 @@ pub record Measure (μ : Tree → ℕ) (c p s : ℕ) : Type 0 where
   pub wire : (w : Wire) (t : Tree) → μ (wire w t) ≤ c + μ t
   pub both : (a b : Tree) → μ (both a b) ≤ μ a + μ b
 
+-- how many sites; wires and pins; wires and sites
 pub measure-sites : Measure sitesOn 0 0 1
 unfolding sitesOn
 measure-sites = record { pin = λ pin due. omega arith; site = λ k t. omega arith; wire = λ w t. omega arith; both = λ a b. omega arith }

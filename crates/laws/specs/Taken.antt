@@ -26,6 +26,7 @@ isDriver Driver = true
 isDriver Point = false
 isDriver (Sink pin) = false
 
+-- only a sink has numbers
 abbrev pub KindIn : Kind → Type 0
 KindIn Driver = Unit {0}
 KindIn Point = Unit {0}

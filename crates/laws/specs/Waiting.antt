@@ -20,7 +20,7 @@ use Rattle.laws.specs.Accepted.{Accepted}
 use Rattle.laws.specs.Rows.{sites-few-from}
 use Rattle.laws.specs.Hanging.{ProperIf, hangs-parted, at-proper}
 use Rattle.laws.specs.Sums.{sumTo, over, Measure, hangs-sum}
-use Rattle.laws.specs.Within.{Within, within-at}
+use Rattle.laws.specs.Within.{within-tree}
 
 -- ---- over all rows at once
 -- one candidate, and one for each type at each site
@@ -39,6 +39,7 @@ module _ (types : List Repeater) where
   FrontIf (some t) none = ⊥
   FrontIf (some t) (some l) = Front (Reaches types t) l
 
+  -- how long it is
   abbrev pub lengthIf : Option (List (Cand Placement)) → ℕ
   lengthIf none = 0
   lengthIf (some l) = length l
@@ -67,7 +68,7 @@ module _ {types : List Repeater} {rows : List Row} (ok : Accepted types rows) wh
   pub accepted-made : (r : ℕ) → r < length rows → (t : Tree) → atRow rows r ≡ some t → (l : List (Cand Placement)) → Front (Reaches types t) l → length l ≤ listRoom
   accepted-made r h t e l F =
       let p : Proper t = subst (λ u. ProperIf u) e (at-proper rows r h) in
-      let w : Within (some t) = subst (λ u. Within u) e (within-at ok r h) in
+      let w = within-tree ok r h t e in
       omega (arith, reached-length types t l p F, mul-le-mul (ok .types-few) (w .few))
 
   -- 768 are enough

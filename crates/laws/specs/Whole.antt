@@ -5,7 +5,7 @@ use mathlib.Core.Bool.{Bool, true, false, cond, not, _||_, true≢false, false�
 use mathlib.Core.List.{List, [], _∷_}
 use mathlib.Core.Logic.{_↔_, inl, inr}
 use mathlib.Core.Option.{Option, none, some}
-use Prim.Native.Nat.{ℕ, suc, _+_, _≤_, _<_}
+use Prim.Native.Nat.{ℕ, _+_, _≤_, _<_}
 use native.Mathlib.Omega.{arith}
 use native.Mathlib.Decide.{ℕ-discrete, decLt}
 use lib.Dec.{T, eqb, eqb-refl}
@@ -28,6 +28,7 @@ abbrev pub there : Option Tree → Bool
 there none = false
 there (some t) = true
 
+-- and is a tree
 pub there-some : (u : Option Tree) → there u ≡ true → (t : Tree) × (u ≡ some t)
 there-some none e = absurd (false≢true e)
 there-some (some t) e = (t, refl)
@@ -134,16 +135,33 @@ unfolding sitesOf driverRow rowOf
 no-site resistance rows = omega arith
 
 module _ {types : List Repeater} {rows : List Row} (ok : Accepted types rows) where
-  -- under a sink nothing hangs, under any other row something
-  pub under-there : (d : Row) (i k : ℕ) → i < length rows → there (hangs (i + 1) k (drop (suc i) rows) i) ≡ not (isSink (getD rows i d .kind))
-  under-there d i k h = let (s, a) = standing-at ok d i h in hangs-there (i + 1) k (drop (suc i) rows) i s ∙ a
+  -- something hangs under a row where it is no sink, and only there
+  pub under-there : (d : Row) (i k : ℕ) → i < length rows → there (hangs (i + 1) k (drop (i + 1) rows) i) ≡ not (isSink (getD rows i d .kind))
+  under-there d i k h = hangs-there (i + 1) k (drop (i + 1) rows) i (standing-from ok (i + 1)) ∙ standing-at ok d i h
+
+  -- under a sink nothing hangs
+  pub under-sink : (d : Row) (i k : ℕ) → i < length rows → T (isSink (getD rows i d .kind)) → hangs (i + 1) k (drop (i + 1) rows) i ≡ none
+  under-sink d i k h t = go (hangs (i + 1) k (drop (i + 1) rows) i) (isSink (getD rows i d .kind)) t (under-there d i k h)
+    where
+      go : (u : Option Tree) (b : Bool) → T b → there u ≡ not b → u ≡ none
+      go none b t e = refl
+      go (some n) true t e = absurd (true≢false e)
+      go (some n) false t e = absurd t
+
+  -- under any other row a tree hangs
+  pub under-tree : (d : Row) (i k : ℕ) → i < length rows → T (not (isSink (getD rows i d .kind))) → (t : Tree) × (hangs (i + 1) k (drop (i + 1) rows) i ≡ some t)
+  under-tree d i k h t = there-some (hangs (i + 1) k (drop (i + 1) rows) i) (under-there d i k h ∙ go (isSink (getD rows i d .kind)) t)
+    where
+      go : (b : Bool) → T (not b) → not b ≡ true
+      go true t = absurd t
+      go false t = refl
 
   -- there is a tree at every row, and no site is twice in it
   pub tree-at : (r : ℕ) → r < length rows → (t : Tree) × (atRow rows r ≡ some t) × Proper t
   tree-at r h =
       let x = getD rows r (driverRow 0) in
       let k = sitesOf (take r rows) in
-      let u = hangs (r + 1) (k + siteCount (x .site)) (drop (suc r) rows) r in
+      let u = hangs (r + 1) (k + siteCount (x .site)) (drop (r + 1) rows) r in
       let (t, e) = there-some (atRow rows r) (ap there (atRow-is (driverRow 0) rows r h) ∙ seen-there (x .site) (x .kind) k u (under-there (driverRow 0) r (k + siteCount (x .site)) h)) in
       let p : ProperIf (some t) = rw e at (at-proper rows r h) in
       (t, e, p)
@@ -152,6 +170,7 @@ module _ {types : List Repeater} {rows : List Row} (ok : Accepted types rows) wh
   pub driver-is : atRow rows 0 ≡ hangs 1 0 (drop 1 rows) 0
   driver-is = ap (λ z. atRow z 0) (ok .driver) ∙ driver-first (driverOhms rows) (drop 1 rows)
 
+  -- the driver has no site
   pub sites-are : sitesOf rows ≡ sitesOf (drop 1 rows)
   sites-are = ap sitesOf (ok .driver) ∙ no-site (driverOhms rows) (drop 1 rows)
 

@@ -4,8 +4,9 @@ use mathlib.Core.Path.{_≡_, subst}
 use mathlib.Core.Bool.{Bool, true, false, cond}
 use mathlib.Core.List.{List, [], _∷_}
 use mathlib.Core.Option.{Option, none, some}
-use Prim.Native.Nat.{ℕ, suc, _+_, _*_, _≤_, _<_}
+use Prim.Native.Nat.{ℕ, _+_, _*_, _≤_, _<_}
 use native.Mathlib.Omega.{arith}
+use native.Mathlib.Numerals.{add-one}
 use lib.Dec.{eqb}
 use lib.IntN.{ℤ}
 use lib.ListN.{length, length-drop, getD, take, drop}
@@ -22,6 +23,8 @@ use Rattle.rules.specs.Net.{Wire, Tree, sink, site, wireOf, sited, seen, wired,
 use Rattle.rules.specs.Slack.{load, IsSlack}
 use Rattle.rules.specs.Pairs.{sitesOn, Pair, Legal, PairOf}
 use Rattle.laws.specs.Integers.{times, ⊖-read}
+use Rattle.laws.specs.Candidates.{Cand}
+use Rattle.laws.specs.Method.{Reaches}
 use Rattle.laws.specs.Trees.{time, time-is, slack-is, least-unique}
 use Rattle.laws.specs.Ranges.{InRange, weight, stages, load-range, slack-low, slack-top}
 use Rattle.laws.specs.Taken.{RowIn, KindIn, driverRow}
@@ -107,65 +110,78 @@ within-seen i k x rows (cons h a) l s =
     }
 
 -- ---- accepted nets
+drop-step : (d : Row) (rows : List Row) (i : ℕ) → i < length rows → drop i rows ≡ getD rows i d ∷ drop (i + 1) rows
+drop-step d rows i h = rw (add-one, drop-cons rows i d)
+
 module _ {types : List Repeater} {rows : List Row} (ok : Accepted types rows) where
   -- what hangs under a row, of the rows from number i on
   pub within-under : (i k r : ℕ) → 1 ≤ i → r < i → Within (hangs i k (drop i rows) r)
   within-under i k r h g = within-hangs i k (drop i rows) r g (rows-in-from ok i) (omega (arith, length-drop i rows, ok .rows-few)) (sites-few-from ok i)
 
   -- row i with its wire
-  pub within-row : (d : Row) (i k : ℕ) → 1 ≤ i → i < length rows → Within (hung (getD rows i d) k (hangs (i + 1) (k + siteCount (getD rows i d .site)) (drop (suc i) rows) i))
+  pub within-row : (d : Row) (i k : ℕ) → 1 ≤ i → i < length rows → Within (hung (getD rows i d) k (hangs (i + 1) (k + siteCount (getD rows i d .site)) (drop (i + 1) rows) i))
   within-row d i k h g =
-      let e = drop-cons rows i d g in
-      within-hung i k (getD rows i d) (drop (suc i) rows) (rw e at (rows-in-from ok i)) (omega (arith, length-drop (suc i) rows, ok .rows-few)) (rw e at (sites-few-from ok i))
+      let e = drop-step d rows i g in
+      within-hung i k (getD rows i d) (drop (i + 1) rows) (rw e at (rows-in-from ok i)) (omega (arith, length-drop (i + 1) rows, ok .rows-few)) (rw e at (sites-few-from ok i))
 
   -- row i without its wire, whatever its site's number
-  pub within-own : (d : Row) (i k : ℕ) → i < length rows → Within (seen (getD rows i d .site) (getD rows i d .kind) k (hangs (i + 1) (k + siteCount (getD rows i d .site)) (drop (suc i) rows) i))
+  pub within-own : (d : Row) (i k : ℕ) → i < length rows → Within (seen (getD rows i d .site) (getD rows i d .kind) k (hangs (i + 1) (k + siteCount (getD rows i d .site)) (drop (i + 1) rows) i))
   within-own d i k g =
-      let e = drop-cons rows i d g in
-      within-seen i k (getD rows i d) (drop (suc i) rows) (rw e at (rows-in-from ok i)) (omega (arith, length-drop (suc i) rows, ok .rows-few)) (rw e at (sites-few-from ok i))
+      let e = drop-step d rows i g in
+      within-seen i k (getD rows i d) (drop (i + 1) rows) (rw e at (rows-in-from ok i)) (omega (arith, length-drop (i + 1) rows, ok .rows-few)) (rw e at (sites-few-from ok i))
 
   -- what is at a row
   pub within-at : (r : ℕ) → r < length rows → Within (atRow rows r)
   within-at r h = rw (atRow-is (driverRow 0) rows r h) (within-own (driverRow 0) r (sitesOf (take r rows)) h)
 
-  -- ---- of a placement, at any row
-  module _ (p : Placement) (known : (j : ℕ) → p j ≤ length types) (u : Option Tree) (within : Within u) (t : Tree) (e : u ≡ some t) where
-    kept : Within (some t)
-    kept = subst (λ u. Within u) e within
+  -- the tree at a row
+  pub within-tree : (r : ℕ) → r < length rows → (t : Tree) → atRow rows r ≡ some t → Within (some t)
+  within-tree r h t e = subst (λ u. Within u) e (within-at r h)
 
+  -- ---- of a placement, at any tree that is within
+  module _ (p : Placement) (known : (j : ℕ) → p j ≤ length types) (t : Tree) (kept : Within (some t)) where
     -- no load is more than 51,200,000
     pub load-within : load types p t ≤ mostLoad
     load-within = load-range types (type-in ok) p known t (kept .inside) (kept .light) (kept .short) 0 (omega arith)
 
-    -- the time is between -3 × 10^15 and 10^12
+    -- the time is at least -3 × 10^15
     pub time-from : leastSlack ≤ℤ time types p t
     time-from = let h = slack-low types (type-in ok) p known t (kept .inside) (kept .light) (kept .short) 0 (omega arith) in omega (times, ⊖-read (time types p t) (0 * load types p t))
 
+    -- and at most 10^12
     pub time-to : time types p t ≤ℤ mostSlack
     time-to = let h = slack-top types (type-in ok) p known t (kept .inside) (kept .light) (kept .short) 0 (omega arith) in omega (times, ⊖-read (time types p t) (0 * load types p t))
 
-    -- and so is the slack
+    -- the slack is at least -3 × 10^15
     pub slack-from : leastSlack ≤ℤ time types p t ⊖ (driverOhms rows * load types p t)
     slack-from = slack-low types (type-in ok) p known t (kept .inside) (kept .light) (kept .short) (driverOhms rows) (driver-in ok)
 
+    -- and at most 10^12
     pub slack-to : time types p t ⊖ (driverOhms rows * load types p t) ≤ℤ mostSlack
     slack-to = slack-top types (type-in ok) p known t (kept .inside) (kept .light) (kept .short) (driverOhms rows) (driver-in ok)
 
-  -- ---- of a legal placement
+  -- the load and the time of a candidate that is reached at such a tree
+  pub reached-within : (t : Tree) (c : Cand Placement) → Within (some t) → Reaches types t c → (c .load ≤ mostLoad) × (leastSlack ≤ℤ c .time) × (c .time ≤ℤ mostSlack)
+  reached-within t c w r =
+      let p = c .place in
+      let k = r .legal .known in
+      rw (r .load, r .time) (load-within p k t w, time-from p k t w, time-to p k t w)
+
+  -- ---- of a legal placement, at a row
   module _ (r : ℕ) (h : r < length rows) (t : Tree) (e : atRow rows r ≡ some t) (p : Placement) (legal : Legal types t p) where
     -- a load is at most 51,200,000
     pub accepted-load : load types p t ≤ mostLoad
-    accepted-load = load-within p (legal .known) (atRow rows r) (within-at r h) t e
+    accepted-load = load-within p (legal .known) t (within-tree r h t e)
 
     -- the pair's time lies between -3 × 10^15 and 10^12
     pub accepted-time : (c : Pair) → PairOf types t p c → (leastSlack ≤ℤ c .time) × (c .time ≤ℤ mostSlack)
     accepted-time c q =
         let z = least-unique (q .time) (time-is types p t) in
-        rw z (time-from p (legal .known) (atRow rows r) (within-at r h) t e, time-to p (legal .known) (atRow rows r) (within-at r h) t e)
+        rw z (time-from p (legal .known) t (within-tree r h t e), time-to p (legal .known) t (within-tree r h t e))
 
     -- the slack lies between -3 × 10^15 and 10^12
     pub accepted-slack : (slack : ℤ) → IsSlack types p (driverOhms rows) t slack → (leastSlack ≤ℤ slack) × (slack ≤ℤ mostSlack)
     unfolding IsSlack
     accepted-slack slack q =
         let z = least-unique q (slack-is types p (driverOhms rows) t) in
-        rw z (slack-from p (legal .known) (atRow rows r) (within-at r h) t e, slack-to p (legal .known) (atRow rows r) (within-at r h) t e)
+        rw z (slack-from p (legal .known) t (within-tree r h t e), slack-to p (legal .known) t (within-tree r h t e))
