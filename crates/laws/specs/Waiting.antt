@@ -1,5 +1,5 @@
--- The room: while the rows are taken, whatever their order, the lists that wait hold at most 511 candidates and the one being made
--- 257. Over all rows at once, and as what each step of the recursion hands to the next. Assumes nothing.
+-- The room, over all rows at once: while the rows are taken, whatever their order, the lists that wait hold at most 511 candidates and
+-- the one being made 257. Assumes nothing.
 use mathlib.Core.Path.{_≡_, subst}
 use mathlib.Core.List.{List}
 use mathlib.Core.Option.{Option, none, some}
