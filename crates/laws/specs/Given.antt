@@ -16,7 +16,7 @@ use Rattle.rules.specs.Lists.{written}
 use Rattle.rules.specs.Quantities.{typesRoom, rowsRoom}
 use Rattle.rules.specs.Entries.{Repeater, typesOf, rowsOf, rowOf, sitesOf}
 use Rattle.rules.specs.Text.{textEntries, linesOf, lineOf, lettered, typeLine, driverLine, pointLine, sinkLine, parted, number, digits, signed}
-use Rattle.rules.specs.Tables.{Tables, Counts, typeWords, rowWords, shortTables, tableEntries, counted, from, rowEntry, rowBy, typeEntry}
+use Rattle.rules.specs.Tables.{Tables, Counts, typeWords, rowWords, shortTables, tableEntries, counted, from, rowEntry, rowBy, isZero, typeEntry}
 use Rattle.rules.specs.Refusals.{refusalOf, firstRefusal, lineRefusal, lastRefusal, misplaced, outOfRange, tooMany, orphan, noParent, childless, lineOfRow}
 use Rattle.rules.specs.Refused.{bytes, entries}
 use Rattle.rules.specs.Answers.{Timing, done, slackFigures, planFigures, listFigures}
@@ -64,7 +64,7 @@ pub record Nets : Type 0 where
 
 -- each by computing it
 pub nets : Nets
-unfolding tablesIn countsIn blank filled written typeTable rowTable dueTable tableEntries counted from rowEntry rowBy typeEntry tablesRefusal shortTables bytes textEntries linesOf lineOf lettered typeLine driverLine pointLine sinkLine parted number digits signed typesOf rowsOf rowOf refusalOf firstRefusal lineRefusal lastRefusal misplaced outOfRange tooMany sitesOf orphan noParent childless lineOfRow readRefusal slackRefusal placementRefusal marksFrom markRefusal marks markIn wireOf hangs at atRow typesBy wireBy A₀ A₁
+unfolding tablesIn countsIn blank filled written typeTable rowTable dueTable tableEntries counted from rowEntry rowBy isZero typeEntry tablesRefusal shortTables bytes textEntries linesOf lineOf lettered typeLine driverLine pointLine sinkLine parted number digits signed typesOf rowsOf rowOf refusalOf firstRefusal lineRefusal lastRefusal misplaced outOfRange tooMany sitesOf orphan noParent childless lineOfRow readRefusal slackRefusal placementRefusal marksFrom markRefusal marks markIn wireOf hangs at atRow typesBy wireBy A₀ A₁
 nets = record {
   lends-A = record { whole = refl; taken = refl };
   lends-A-strong = record { whole = refl; taken = refl };
