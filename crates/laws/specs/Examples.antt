@@ -57,6 +57,7 @@ pub record IsList (net : String) (row : ℕ) (list : List Pair) : Type 0 where
   pub tree-is : atRow (rowsOf (entries net)) row ≡ some tree
   pub unbeaten : Unbeaten (Reached (typesOf (entries net)) tree) list
 
+-- a pair by its load and a time that is not negative
 abbrev pub paired : ℕ × ℕ → Pair
 paired c = record { load = c .0; time = pos (c .1) }
 
@@ -115,6 +116,7 @@ best-meeting driver slack u a e = record {
 }
 
 -- ---- the nets
+-- `T 2 3 10`, `D 20`, `W 0 4 5 1`, `S 1 6 7 0 8 1000`
 abbrev pub netA : String
 netA = "T\t2\t3\t10\nD\t20\nW\t0\t4\t5\t1\nS\t1\t6\t7\t0\t8\t1000\n"
 
@@ -126,13 +128,15 @@ netA-strong = "T\t2\t3\t10\nD\t0\nW\t0\t4\t5\t1\nS\t1\t6\t7\t0\t8\t1000\n"
 abbrev pub netA-even : String
 netA-even = "T\t2\t3\t20\nD\t1\nW\t0\t4\t5\t1\nS\t1\t6\t7\t0\t8\t1000\n"
 
+-- `T 2 3 10`, `D 20`, `W 0 4 5 0`, `S 1 6 7 1 8 1000`, `S 1 0 3 1 30 950`
 abbrev pub netB : String
 netB = "T\t2\t3\t10\nD\t20\nW\t0\t4\t5\t0\nS\t1\t6\t7\t1\t8\t1000\nS\t1\t0\t3\t1\t30\t950\n"
 
+-- `D 20`, `S 0 0 0 0 8 1000`
 abbrev pub netC : String
 netC = "D\t20\nS\t0\t0\t0\t0\t8\t1000\n"
 
--- their types and trees
+-- their types, and what is at their rows
 unfoldable pub typesBy : ℕ → List Repeater
 typesBy own = record { input = 2; resistance = 3; own = own } ∷ []
 
@@ -157,11 +161,11 @@ B₀ = wire (wireBy 4 5) B₁
 unfoldable pub C₀ : Tree
 C₀ = wire (wireBy 0 0) (sink 8 (pos 1000))
 
-pub proper-A : Proper A₀
+proper-A : Proper A₀
 unfolding A₀ A₁
 proper-A = ((λ h. h), tt)
 
-pub proper-B : Proper B₀
+proper-B : Proper B₀
 unfolding B₀ B₁ B₂
 proper-B = (apart, ((λ h. h), tt), ((λ h. h), tt))
   where
@@ -230,10 +234,10 @@ two-below a b c d h k = cons (cons (below-by a b c d h k) nil) (cons nil nil)
 convex : Pairwise Below (paired (1, 0) ∷ paired (2, 10) ∷ paired (3, 100) ∷ [])
 convex = cons (cons (below-by 1 0 2 10 (omega arith) (omega arith)) (cons (below-by 1 0 3 100 (omega arith) (omega arith)) nil)) (two-below 2 10 3 100 (omega arith) (omega arith))
 
-pub none-legal : (types : List Repeater) (t : Tree) → Legal types t (marked [])
+none-legal : (types : List Repeater) (t : Tree) → Legal types t (marked [])
 none-legal types t = marked-legal types t [] nil (λ j h. absurd (omega arith))
 
-pub one-A : (types : List Repeater) → 1 ≤ length types → Legal types A₀ (marked (1 ∷ []))
+one-A : (types : List Repeater) → 1 ≤ length types → Legal types A₀ (marked (1 ∷ []))
 unfolding A₀ A₁
 one-A types h = marked-legal types A₀ (1 ∷ []) (cons h nil) (λ j h. inl (omega arith))
 
@@ -246,6 +250,7 @@ two-B = marked-legal (typesBy 10) B₀ (1 ∷ 1 ∷ []) (cons (omega arith) (con
     on (suc zero) h = inr (inl refl)
     on (suc (suc j)) h = absurd (omega arith)
 
+-- all of it, computed from the definitions
 pub examples : Examples
 unfolding bytes textEntries linesOf lineOf lettered typeLine driverLine pointLine sinkLine parted number digits signed typesOf rowsOf rowOf wireOf hangs at atRow rowOfSite typesBy wireBy A₀ A₁ B₀ B₁ B₂ C₀ marked loadOf seenLoad timeOf top pinned typeOf repeaterDelay wireDelay frontOf siteStep typeStep wireStep climb climbed behind buffered value best pick thinIn put stand standBy decLe ≤-or-< order merge mergeAt next joined minℤ hi lo _⊖_ meeting pairOf lone
 examples = record {
