@@ -39,7 +39,7 @@ impl Areas {
         let mut words = |length: usize| -> Vec<u64> { (0..length).map(|_| random.word()).collect() };
         let short = |words: Vec<u64>| words.into_iter().map(|word| word as u32).collect();
         let signed = |words: Vec<u64>| words.into_iter().map(|word| word as i64).collect();
-        let record = |word: u64| Candidate { load: word as u32, time: !word as i64, words: [word; 4] };
+        let record = |word: u64| Candidate { load: word, time: !word as i64, words: [word; 4] };
         Areas {
             types: short(words(lengths.types)),
             rows: short(words(lengths.rows)),

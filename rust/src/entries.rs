@@ -70,10 +70,11 @@ pub struct Planned {
     pub load: u32,
 }
 
-/// Load, time and placement together.
+/// Load, time and placement together. The load takes a whole word so that a record has no gaps:
+/// a run of them is then cleared at the speed of memory.
 #[derive(Clone, Copy, Debug, PartialEq, Eq, Default)]
 pub struct Candidate {
-    pub load: u32,
+    pub load: u64,
     pub time: i64,
     pub words: [u64; room::PLACEMENT],
 }

@@ -20,7 +20,8 @@ pub fn plan(
     if tables.short() || placement.len() < room::PLACEMENT || work.len() < room::WORK {
         return Err(Refusal::at(7, 0));
     }
-    let tree = Tree::check(&tables)?;
+    let mut tree = Tree::new();
+    tree.check(&tables)?;
     let work = &mut work[..room::WORK];
     let (repeaters, count) = steps::by_load(&tables);
     let end = walk(&tables, &tree, &repeaters[..count], work);
@@ -46,7 +47,7 @@ fn walk(tables: &Tables, tree: &Tree, repeaters: &[Repeater], work: &mut [Candid
         if kind == 2 {
             starts[waiting] = end as u16;
             waiting += 1;
-            work[end] = Candidate { load: pin_load, time: tables.due[row], words: [0; 4] };
+            work[end] = Candidate { load: pin_load.into(), time: tables.due[row], words: [0; 4] };
             end += 1;
         }
         let start = starts[waiting - 1] as usize;
@@ -67,13 +68,13 @@ fn at_driver(list: &[Candidate], resistance: u32) -> ([u64; room::PLACEMENT], Pl
     let mut best = &list[0];
     let mut slack = i64::MIN;
     for candidate in list {
-        let time = candidate.time - i64::from(resistance) * i64::from(candidate.load);
+        let time = candidate.time - i64::from(resistance) * candidate.load as i64;
         if time > slack {
             slack = time;
             best = candidate;
         }
     }
-    (best.words, Planned { slack, load: best.load })
+    (best.words, Planned { slack, load: best.load as u32 })
 }
 
 #[cfg(test)]

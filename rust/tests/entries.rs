@@ -102,7 +102,7 @@ impl Entries for Faulty {
         work: &mut [Candidate],
     ) -> Result<Planned, Refusal> {
         let planned = Reference.plan_records(tables, placement, work)?;
-        work[767].load = u32::from(self.0 == Fault::WorkLeft);
+        work[767].load = u64::from(self.0 == Fault::WorkLeft);
         Ok(planned)
     }
 

@@ -14,16 +14,15 @@ pub struct Tree {
 }
 
 impl Tree {
-    pub fn check(tables: &Tables) -> Result<Tree, Refusal> {
+    pub fn new() -> Tree {
+        Tree { order: [0; room::ROWS], site: [0; room::ROWS], ends: [0; room::ROWS] }
+    }
+
+    /// Checks the tables in full and fills the tree; in place, as a copy would cost a small net.
+    pub fn check(&mut self, tables: &Tables) -> Result<(), Refusal> {
         check_types(tables)?;
-        let mut tree = Tree {
-            order: [0; room::ROWS],
-            site: [0; room::ROWS],
-            ends: [0; room::ROWS],
-        };
-        tree.check_rows(tables)?;
-        tree.put_in_order(tables)?;
-        Ok(tree)
+        self.check_rows(tables)?;
+        self.put_in_order(tables)
     }
 
     /// The rows of one parent stand behind each other, the last one's end being the parent's.

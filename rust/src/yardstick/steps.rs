@@ -6,7 +6,7 @@ use crate::room;
 
 #[derive(Clone, Copy, Default)]
 pub struct Repeater {
-    input_load: u32,
+    input_load: u64,
     resistance: i64,
     own_delay: i64,
     mark: u64,
@@ -19,7 +19,7 @@ pub fn by_load(tables: &Tables) -> ([Repeater; room::TYPES], usize) {
     let types = tables.types.chunks_exact(room::TYPE_WORDS).take(count);
     for (index, words) in types.enumerate() {
         repeaters[index] = Repeater {
-            input_load: words[0],
+            input_load: words[0].into(),
             resistance: words[1].into(),
             own_delay: words[2].into(),
             mark: index as u64 + 1,
@@ -37,6 +37,7 @@ pub fn pass_wire(
     resistance: u32,
     capacitance: u32,
 ) -> usize {
+    let (resistance, capacitance) = (i64::from(resistance), u64::from(capacitance));
     if resistance == 0 {
         for candidate in &mut work[start..end] {
             candidate.load += capacitance;
@@ -49,7 +50,7 @@ pub fn pass_wire(
     for at in 0..list.len() {
         let candidate = &list[at];
         let load = candidate.load + capacitance;
-        let time = candidate.time - i64::from(resistance) * i64::from(load);
+        let time = candidate.time - resistance * load as i64;
         if time > latest {
             latest = time;
             list[kept] = Candidate { load, time, words: candidate.words };
@@ -57,6 +58,13 @@ pub fn pass_wire(
         }
     }
     start + kept
+}
+
+/// What a type offers: the candidate it would drive, as seen through it, and its mark.
+#[derive(Clone, Copy, Default)]
+struct Offer {
+    seen: Candidate,
+    mark: u64,
 }
 
 /// Puts what each type offers among the list it was made from.
@@ -67,60 +75,65 @@ pub fn pass_site(
     repeaters: &[Repeater],
     site: usize,
 ) -> usize {
-    let mut offers = [Candidate::default(); room::TYPES];
+    let mut offers = [Offer::default(); room::TYPES];
     let mut count = 0;
     for repeater in repeaters {
-        let offer = offer(&work[start..end], repeater, site);
+        let offer = offer(&work[start..end], repeater);
         // Offers come with loads rising: a later one that is no better is beaten or the same.
-        if count == 0 || offer.time > offers[count - 1].time {
-            if count > 0 && offer.load == offers[count - 1].load {
+        if count == 0 || offer.seen.time > offers[count - 1].seen.time {
+            if count > 0 && offer.seen.load == offers[count - 1].seen.load {
                 count -= 1;
             }
             offers[count] = offer;
             count += 1;
         }
     }
-    put_among(work, start, end, &offers[..count])
+    put_among(work, start, end, &offers[..count], site)
 }
 
 /// The first of the greatest times behind the repeater.
-fn offer(list: &[Candidate], repeater: &Repeater, site: usize) -> Candidate {
+fn offer(list: &[Candidate], repeater: &Repeater) -> Offer {
     let mut best = &list[0];
     let mut greatest = i64::MIN;
     for candidate in list {
-        let time = candidate.time - repeater.resistance * i64::from(candidate.load);
+        let time = candidate.time - repeater.resistance * candidate.load as i64;
         if time > greatest {
             greatest = time;
             best = candidate;
         }
     }
-    let mut words = best.words;
-    words[site / 16 % 4] |= repeater.mark << (4 * (site % 16));
-    Candidate { load: repeater.input_load, time: greatest - repeater.own_delay, words }
+    let time = greatest - repeater.own_delay;
+    let seen = Candidate { load: repeater.input_load, time, words: best.words };
+    Offer { seen, mark: repeater.mark }
 }
 
 /// Moves the list up once by the number of offers; behind the last offer it then stands where it
 /// belongs, unless something was beaten.
-fn put_among(work: &mut [Candidate], start: usize, end: usize, offers: &[Candidate]) -> usize {
+fn put_among(
+    work: &mut [Candidate],
+    start: usize,
+    end: usize,
+    offers: &[Offer],
+    site: usize,
+) -> usize {
     work.copy_within(start..end, start + offers.len());
     let end = end + offers.len();
     let mut from = start + offers.len();
     let mut to = start;
     let mut latest = i64::MIN;
-    for offer in offers {
-        while from < end && (work[from].load < offer.load
-            || work[from].load == offer.load && work[from].time >= offer.time)
-        {
+    for Offer { seen, mark } in offers {
+        while from < end && comes_first(&work[from], seen) {
             latest = work[from].time;
             work[to] = work[from];
             to += 1;
             from += 1;
         }
-        if offer.time <= latest {
+        if seen.time <= latest {
             continue;
         }
-        latest = offer.time;
-        work[to] = *offer;
+        latest = seen.time;
+        work[to] = *seen;
+        work[to].words[site / 16] |= mark << (4 * (site % 16));
         to += 1;
         while from < end && work[from].time <= latest {
             from += 1;
@@ -130,6 +143,11 @@ fn put_among(work: &mut [Candidate], start: usize, end: usize, offers: &[Candida
         work.copy_within(from..end, to);
     }
     to + (end - from)
+}
+
+/// Whether a candidate of the list stands before an offer, or beats it at the same load.
+fn comes_first(listed: &Candidate, offer: &Candidate) -> bool {
+    listed.load < offer.load || listed.load == offer.load && listed.time >= offer.time
 }
 
 /// Joins the lists at `left..right` and `right..end`, and leaves the result at `left`. Both are
