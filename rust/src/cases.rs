@@ -38,6 +38,8 @@ impl By {
 pub struct TextCase {
     pub name: &'static str,
     pub recipe: &'static str,
+    /// Lengths of types, rows and due where they are not lent at their room.
+    pub lengths: Option<[usize; 3]>,
     pub expected: &'static str,
     pub by: By,
 }

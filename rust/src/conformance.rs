@@ -36,7 +36,8 @@ pub struct Areas {
 
 impl Areas {
     pub fn filled(random: &mut Random, lengths: Lengths) -> Areas {
-        let mut words = |length: usize| -> Vec<u64> { (0..length).map(|_| random.word()).collect() };
+        let mut words =
+            |length: usize| -> Vec<u64> { (0..length).map(|_| random.word()).collect() };
         let short = |words: Vec<u64>| words.into_iter().map(|word| word as u32).collect();
         let signed = |words: Vec<u64>| words.into_iter().map(|word| word as i64).collect();
         let record = |word: u64| Candidate { load: word, time: !word as i64, words: [word; 4] };

@@ -7,6 +7,7 @@
 //! - [`yardstick`]: the same planner written for speed; the measure of speed
 //! - [`random`]: seeded nets, tables and damaged texts
 //! - [`cases`]: the fixed cases behind `vectors/read.txt` and `vectors/plan.txt`
+//! - [`nets`]: the example nets
 //! - [`conformance`]: holds any implementation of the entries against the reference
 //!
 //! Everything here is safe Rust over the standard library alone; only a module that links a library
@@ -18,6 +19,7 @@ pub mod cases;
 pub mod conformance;
 pub mod entries;
 pub mod net;
+pub mod nets;
 pub mod random;
 pub mod recipe;
 pub mod reference;

@@ -118,7 +118,11 @@ fn report(set: &str, nets: usize, planners: &[Planner], times: &[Duration]) {
     for (planner, time) in planners.iter().zip(times) {
         let seconds = time.as_secs_f64();
         print!("{set:<26} {:<16}", planner.name);
-        print!(" {:>12.0} nets/s {:>10.3} us/net", nets as f64 / seconds, seconds * 1e6 / nets as f64);
+        print!(
+            " {:>12.0} nets/s {:>10.3} us/net",
+            nets as f64 / seconds,
+            seconds * 1e6 / nets as f64
+        );
         println!("  ratio {:.3}", seconds / times[0].as_secs_f64());
     }
 }
@@ -143,7 +147,12 @@ fn whole_chip(planners: &[Planner]) {
     }
     report("169,000 typical", NETS, planners, &times);
     for (planner, time) in planners.iter().zip(&times) {
-        println!("{:<26} {:<16} {:>12.3} s in all", "169,000 typical", planner.name, time.as_secs_f64());
+        println!(
+            "{:<26} {:<16} {:>12.3} s in all",
+            "169,000 typical",
+            planner.name,
+            time.as_secs_f64()
+        );
     }
 }
 

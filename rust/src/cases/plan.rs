@@ -9,6 +9,7 @@ pub const ALL: &[&[PlanCase]] = &[EXAMPLES, THINNING, TIES, CORNERS, PLACEMENTS,
 const NONE: [u64; 4] = [0; 4];
 
 /// P1 to P11.
+#[rustfmt::skip]
 pub const EXAMPLES: &[PlanCase] = &[
     PlanCase {
         name: "net-a",
@@ -80,6 +81,7 @@ pub const EXAMPLES: &[PlanCase] = &[
 ];
 
 /// "Thinning that goes wrong": nets whose answer each mistake loses.
+#[rustfmt::skip]
 pub const THINNING: &[PlanCase] = &[
     // Rows 1 and 2 give (1, 0), (2, 10), (3, 100) and (1, 10); convex pruning would give 6.
     PlanCase {
@@ -135,6 +137,7 @@ pub const THINNING: &[PlanCase] = &[
 ];
 
 /// Equal slacks, equal loads, equal times.
+#[rustfmt::skip]
 pub const TIES: &[PlanCase] = &[
     PlanCase {
         name: "equal-slack-unequal-loads-branch",
@@ -174,6 +177,7 @@ pub const TIES: &[PlanCase] = &[
 ];
 
 /// No types, no sites, a repeater at a sink, other orders of the rows.
+#[rustfmt::skip]
 pub const CORNERS: &[PlanCase] = &[
     PlanCase {
         name: "no-types-but-sites",
@@ -218,6 +222,7 @@ pub const CORNERS: &[PlanCase] = &[
 ];
 
 /// Refusals 6 and 8, and marks at the ends of words.
+#[rustfmt::skip]
 pub const PLACEMENTS: &[PlanCase] = &[
     PlanCase {
         name: "marks-on-net-a",
@@ -259,6 +264,7 @@ pub const PLACEMENTS: &[PlanCase] = &[
 ];
 
 /// Every limit of the ranges and rooms.
+#[rustfmt::skip]
 pub const LIMITS: &[PlanCase] = &[
     PlanCase {
         name: "due-greatest",

@@ -1,9 +1,10 @@
 //! What the reference gives for each case, one answer a line, and the data files made from it.
 
 use super::{plan, read_tables, read_text, Ask, By, PlanCase, TableCase, TextCase};
+use crate::entries::{Entries, TableWords};
 use crate::net::{Net, Placement};
 use crate::recipe;
-use crate::reference::{self, search, Pair};
+use crate::reference::{self, search, Pair, Reference};
 
 /// Up to so many placements are gone through to see whether the best is the only one.
 const SEARCHED: usize = 5_000;
@@ -22,17 +23,24 @@ pub fn plan_cases() -> impl Iterator<Item = &'static PlanCase> {
 
 /// `accepted`, the counts and the sum of the tables, or the refusal.
 pub fn answer_text(case: &TextCase) -> String {
-    match Net::read(&recipe::make(case.recipe)) {
+    let text = recipe::make(case.recipe);
+    let mut lent = TableWords::empty();
+    if let Some([types, rows, due]) = case.lengths {
+        lent.types.resize(types, 0);
+        lent.rows.resize(rows, 0);
+        lent.due.resize(due, 0);
+    }
+    match Reference.read_net(&text, &mut lent.types, &mut lent.rows, &mut lent.due) {
         Err(refusal) => refusal.to_string(),
-        Ok(net) => {
-            format!("accepted {} {} sum {}", net.types().len(), net.rows().len(), table_sum(&net))
+        Ok(counts) => {
+            (lent.type_count, lent.row_count) = (counts.types, counts.rows);
+            format!("accepted {} {} sum {}", counts.types, counts.rows, table_sum(&lent))
         }
     }
 }
 
 /// Every word in use (types, then rows, then due) times its position among them, from 1.
-pub fn table_sum(net: &Net) -> i64 {
-    let tables = net.tables();
+pub fn table_sum(tables: &TableWords) -> i64 {
     let types = tables.types.iter().take(3 * tables.type_count).map(|&word| i64::from(word));
     let rows = tables.rows.iter().take(6 * tables.row_count).map(|&word| i64::from(word));
     let due = tables.due.iter().take(tables.row_count).copied();
@@ -128,8 +136,9 @@ pub fn lines() -> Vec<String> {
 pub fn read_file() -> String {
     let mut file = String::from(READ_HEADER);
     for case in text_cases() {
-        let (name, recipe, by) = (case.name, case.recipe, case.by.word());
-        file += &format!("\ncase {name}\ntext {recipe}\nexpect {}\nby {by}\n", answer_text(case));
+        file += &format!("\ncase {}\ntext {}\n", case.name, case.recipe);
+        file += &lengths_line(case.lengths);
+        file += &format!("expect {}\nby {}\n", answer_text(case), case.by.word());
     }
     for case in table_cases() {
         file += &format!("\ncase {}\ntables {}\n", case.name, case.recipe);
@@ -139,12 +148,14 @@ pub fn read_file() -> String {
         if let Some((types, rows)) = case.counts {
             file += &format!("counts {types} {rows}\n");
         }
-        if let Some([types, rows, due]) = case.lengths {
-            file += &format!("lengths {types} {rows} {due}\n");
-        }
+        file += &lengths_line(case.lengths);
         file += &format!("expect {}\nby {}\n", answer_tables(case), case.by.word());
     }
     file
+}
+
+fn lengths_line(lengths: Option<[usize; 3]>) -> String {
+    lengths.map_or(String::new(), |[types, rows, due]| format!("lengths {types} {rows} {due}\n"))
 }
 
 /// The data file of plans, lists and slacks.
@@ -167,7 +178,8 @@ const READ_HEADER: &str = "\
 # tables RECIPE        tables to be checked: those of this text, zero past the entries in use
 # set AREA INDEX WORD  then this word of types, rows or due changed
 # counts TYPES ROWS    then these counts given
-# lengths T R D        then the areas lent at these lengths; words added are 4294967295, in due -1
+# lengths T R D        types, rows and due lent at these lengths, not at their room; of tables to be
+#                      checked the words added are 4294967295, in due -1
 # expect ANSWER        refused NUMBER PLACE; or accepted, for a text with the counts of types and
 #                      rows and the sum over all words in use (types, rows, due) of word times
 #                      position, positions counted from 1 through all three
@@ -176,7 +188,7 @@ const READ_HEADER: &str = "\
 #
 # A recipe is pieces joined by ` + `: \"...\" these bytes, with \\t \\n \\r \\0 \\\\ \\\" \\xHH; repeat N
 # \"...\" these bytes N times; each A B \"...\" these bytes for i from A to B, with {...} worked out
-# from i by + - * / % and parentheses.
+# from i by + - * / % and parentheses (* / % bind first, / rounds toward zero).
 ";
 
 const PLAN_HEADER: &str = "\

@@ -6,8 +6,7 @@ use super::{Area, TableCase};
 
 const NET_A: &str = r#""T\t2\t3\t10\nD\t20\nW\t0\t4\t5\t1\nS\t1\t6\t7\t0\t8\t1000\n""#;
 const STAR: &str = r#""D\t20\n" + repeat 255 "S\t0\t1\t1\t0\t1\t1\n""#;
-const STAR_4: &str =
-    r#"repeat 4 "T\t1\t1\t1\n" + "D\t20\n" + repeat 255 "S\t0\t1\t1\t0\t1\t1\n""#;
+const STAR_4: &str = r#"repeat 4 "T\t1\t1\t1\n" + "D\t20\n" + repeat 255 "S\t0\t1\t1\t0\t1\t1\n""#;
 const SITES_64: &str = r#""D\t20\n" + repeat 64 "S\t0\t1\t1\t1\t1\t1\n" + "S\t0\t1\t1\t0\t1\t1\n""#;
 
 type Set = &'static [(Area, usize, i64)];
@@ -46,6 +45,7 @@ const fn lent(
 pub const ALL: &[&[TableCase]] = &[FORM, RANGES, COUNTS, PARENTS, LENGTHS];
 
 /// A missing or misplaced driver, a kind there is not, a field the line would lack.
+#[rustfmt::skip]
 pub const FORM: &[TableCase] = &[
     case("tables-net-a", NET_A, &[], "accepted", Document),
     case("tables-past-entries-unread", NET_A, &[(Types, 3, 4294967295), (Rows, 18, 9), (Due, 3, -1)], "accepted", Hand),
@@ -71,6 +71,7 @@ pub const FORM: &[TableCase] = &[
     case("sink-all-zero-fields", NET_A, &[(Rows, 13, 0), (Rows, 14, 0), (Rows, 15, 0), (Rows, 17, 0), (Due, 2, 0)], "refused 5 3", Hand),
 ];
 
+#[rustfmt::skip]
 pub const RANGES: &[TableCase] = &[
     case("tables-input-100000", NET_A, &[(Types, 0, 100000)], "accepted", Hand),
     case("tables-input-100001", NET_A, &[(Types, 0, 100001)], "refused 2 1", Hand),
@@ -97,6 +98,7 @@ pub const RANGES: &[TableCase] = &[
 ];
 
 /// Counts of none, of the room, and past it.
+#[rustfmt::skip]
 pub const COUNTS: &[TableCase] = &[
     counted("no-row", NET_A, &[], (1, 0), "refused 1 2", Ruling),
     counted("no-row-no-type", NET_A, &[], (0, 0), "refused 1 1", Ruling),
@@ -124,6 +126,7 @@ pub const COUNTS: &[TableCase] = &[
     case("tables-sites-65-out-of-range", SITES_64, &[(Rows, 394, 1), (Rows, 392, 100001)], "refused 2 66", Document),
 ];
 
+#[rustfmt::skip]
 pub const PARENTS: &[TableCase] = &[
     case("tables-parent-itself", NET_A, &[(Rows, 13, 2)], "refused 4 4", Document),
     case("tables-parent-itself-point", NET_A, &[(Rows, 7, 1)], "refused 4 3", Document),
@@ -135,6 +138,7 @@ pub const PARENTS: &[TableCase] = &[
 ];
 
 /// Net A lent at other lengths.
+#[rustfmt::skip]
 pub const LENGTHS: &[TableCase] = &[
     lent("types-11", &[], [11, 1536, 256], "refused 7 0", Document),
     lent("types-0", &[], [0, 1536, 256], "refused 7 0", Document),

@@ -9,12 +9,24 @@ const fn case(
     expected: &'static str,
     by: By,
 ) -> TextCase {
-    TextCase { name, recipe, expected, by }
+    TextCase { name, recipe, lengths: None, expected, by }
 }
 
-pub const ALL: &[&[TextCase]] = &[WHOLE, FORM, NUMBERS, RANGES, ROOMS, PARENTS, BELOW, ORDER];
+const fn lent(
+    name: &'static str,
+    recipe: &'static str,
+    lengths: [usize; 3],
+    expected: &'static str,
+    by: By,
+) -> TextCase {
+    TextCase { name, recipe, lengths: Some(lengths), expected, by }
+}
+
+pub const ALL: &[&[TextCase]] =
+    &[WHOLE, FORM, NUMBERS, RANGES, ROOMS, PARENTS, BELOW, ORDER, LENGTHS];
 
 /// Good texts, no text, texts too long.
+#[rustfmt::skip]
 pub const WHOLE: &[TextCase] = &[
     case("empty", r#""""#, "refused 1 1", Document),
     case("net-a", r#""T\t2\t3\t10\nD\t20\nW\t0\t4\t5\t1\nS\t1\t6\t7\t0\t8\t1000\n""#, "accepted 1 3", Document),
@@ -33,6 +45,7 @@ pub const WHOLE: &[TextCase] = &[
 ];
 
 /// Lines and fields not of the form.
+#[rustfmt::skip]
 pub const FORM: &[TextCase] = &[
     case("line-feed-alone", r#""\n""#, "refused 1 1", Ruling),
     case("blank-first", r#""\nD\t20\nS\t0\t0\t0\t0\t8\t1000\n""#, "refused 1 1", Ruling),
@@ -83,6 +96,7 @@ pub const FORM: &[TextCase] = &[
 ];
 
 /// How a number may be written.
+#[rustfmt::skip]
 pub const NUMBERS: &[TextCase] = &[
     case("leading-zeros", r#""D\t007\nS\t0\t0\t0\t0\t8\t1000\n""#, "refused 1 1", Document),
     case("two-zeros", r#""D\t00\nS\t0\t0\t0\t0\t8\t1000\n""#, "refused 1 1", Document),
@@ -124,6 +138,7 @@ pub const NUMBERS: &[TextCase] = &[
 ];
 
 /// The ends of every range.
+#[rustfmt::skip]
 pub const RANGES: &[TextCase] = &[
     case("pin-100000", r#""D\t20\nS\t0\t0\t0\t0\t100000\t1000\n""#, "accepted 0 2", Document),
     case("pin-100001", r#""D\t20\nS\t0\t0\t0\t0\t100001\t1000\n""#, "refused 2 2", Document),
@@ -151,6 +166,7 @@ pub const RANGES: &[TextCase] = &[
 ];
 
 /// Types, rows and sites past their room.
+#[rustfmt::skip]
 pub const ROOMS: &[TextCase] = &[
     case("types-4", r#"repeat 4 "T\t1\t1\t1\n" + "D\t20\nS\t0\t0\t0\t0\t8\t1000\n""#, "accepted 4 2", Document),
     case("types-5", r#"repeat 5 "T\t1\t1\t1\n" + "D\t20\nS\t0\t0\t0\t0\t8\t1000\n""#, "refused 3 5", Document),
@@ -178,6 +194,7 @@ pub const ROOMS: &[TextCase] = &[
 ];
 
 /// Which row a parent field may name.
+#[rustfmt::skip]
 pub const PARENTS: &[TextCase] = &[
     case("parent-itself", r#""D\t20\nS\t1\t0\t0\t0\t8\t1000\n""#, "refused 4 2", Document),
     case("parent-itself-point", r#""D\t20\nW\t1\t0\t0\t0\nS\t1\t0\t0\t0\t8\t1000\n""#, "refused 4 2", Document),
@@ -196,6 +213,7 @@ pub const PARENTS: &[TextCase] = &[
 ];
 
 /// The driver or a point with nothing below.
+#[rustfmt::skip]
 pub const BELOW: &[TextCase] = &[
     case("driver-alone", r#""D\t5\n""#, "refused 5 1", Document),
     case("driver-alone-types", r#""T\t2\t3\t10\nT\t2\t3\t10\nD\t5\n""#, "refused 5 3", Hand),
@@ -209,6 +227,7 @@ pub const BELOW: &[TextCase] = &[
 ];
 
 /// The order of lines, and of refusals within and between lines.
+#[rustfmt::skip]
 pub const ORDER: &[TextCase] = &[
     case("no-driver", r#""T\t2\t3\t10\n""#, "refused 1 2", Document),
     case("point-before-driver", r#""W\t0\t4\t5\t1\nD\t20\nS\t1\t6\t7\t0\t8\t1000\n""#, "refused 1 1", Document),
@@ -227,4 +246,18 @@ pub const ORDER: &[TextCase] = &[
     case("out-of-range-then-no-driver", r#""T\t100001\t1\t1\n""#, "refused 2 1", Document),
     case("fifth-type-then-malformed-line", r#"repeat 5 "T\t1\t1\t1\n" + "x\n""#, "refused 3 5", Document),
     case("driver-out-of-range-alone", r#""D\t100001\n""#, "refused 2 1", Document),
+];
+
+/// Areas lent to be filled: 7 comes before everything else.
+#[rustfmt::skip]
+pub const LENGTHS: &[TextCase] = &[
+    lent("read-types-11", r#""D\t20\nS\t0\t0\t0\t0\t8\t1000\n""#, [11, 1536, 256], "refused 7 0", Document),
+    lent("read-rows-1535", r#""D\t20\nS\t0\t0\t0\t0\t8\t1000\n""#, [12, 1535, 256], "refused 7 0", Document),
+    lent("read-due-255", r#""D\t20\nS\t0\t0\t0\t0\t8\t1000\n""#, [12, 1536, 255], "refused 7 0", Document),
+    lent("read-areas-0", r#""D\t20\nS\t0\t0\t0\t0\t8\t1000\n""#, [0, 0, 0], "refused 7 0", Document),
+    lent("read-due-255-text-32769", r#"repeat 32769 "\n""#, [12, 1536, 255], "refused 7 0", Document),
+    lent("read-due-255-empty", r#""""#, [12, 1536, 255], "refused 7 0", Document),
+    lent("read-areas-longer", r#""D\t20\nS\t0\t0\t0\t0\t8\t1000\n""#, [13, 1537, 257], "accepted 0 2", Document),
+    lent("read-areas-longer-types-5", r#"repeat 5 "T\t1\t1\t1\n" + "D\t20\nS\t0\t0\t0\t0\t8\t1000\n""#, [15, 1542, 257], "refused 3 5", Document),
+    lent("read-areas-longer-rows-257", r#""D\t20\n" + repeat 256 "S\t0\t1\t1\t0\t1\t1\n""#, [15, 1542, 257], "refused 3 257", Document),
 ];

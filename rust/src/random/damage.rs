@@ -28,7 +28,12 @@ fn slip(random: &mut Random, mut text: Vec<u8>) -> Vec<u8> {
         9 => return edit_line(random, text, |_, fields| drop(fields.pop())),
         10 => return move_line(random, text),
         11 => return edit_line(random, text, blank_line),
-        12 => text.extend_from_slice(random.pick(&[&b"\n"[..], b"S", b"S\t0\t1\t1\t1\t1\t1", b"\0\n"])),
+        12 => text.extend_from_slice(random.pick(&[
+            &b"\n"[..],
+            b"S",
+            b"S\t0\t1\t1\t1\t1\t1",
+            b"\0\n",
+        ])),
         _ => {
             let long = vec![b'7'; random.pick(&[25, 40, 400, 30_000, 33_000])];
             return edit_line(random, text, |random, fields| {
@@ -70,10 +75,32 @@ fn edit_line(
 
 fn edit_field(random: &mut Random, fields: &mut [Vec<u8>]) {
     let values: [&[u8]; 26] = [
-        b"", b"0", b"1", b"2", b"3", b"255", b"256", b"100000", b"100001", b"1000000000",
-        b"1000000001", b"1000000000000", b"1000000000001", b"-1000000000000", b"-1000000000001",
-        b"-0", b"-1", b"-", b"+5", b"007", b"-05", b"4294967296", b"18446744073709551616", b"1e3",
-        b"T", b" 1",
+        b"",
+        b"0",
+        b"1",
+        b"2",
+        b"3",
+        b"255",
+        b"256",
+        b"100000",
+        b"100001",
+        b"1000000000",
+        b"1000000001",
+        b"1000000000000",
+        b"1000000000001",
+        b"-1000000000000",
+        b"-1000000000001",
+        b"-0",
+        b"-1",
+        b"-",
+        b"+5",
+        b"007",
+        b"-05",
+        b"4294967296",
+        b"18446744073709551616",
+        b"1e3",
+        b"T",
+        b" 1",
     ];
     let field = random.below(fields.len());
     fields[field] = random.pick(&values).to_vec();
@@ -140,13 +167,13 @@ impl Lengths {
 pub fn damage_tables(random: &mut Random, tables: &mut TableWords) {
     let values =
         [0, 1, 2, 3, 4, 63, 255, 256, 100_000, 100_001, 1_000_000_000, 1_000_000_001, u32::MAX];
-    let times = [
-        0, 1, -1, room::DUE, -room::DUE, room::DUE + 1, -room::DUE - 1, i64::MIN, i64::MAX,
-    ];
+    let times =
+        [0, 1, -1, room::DUE, -room::DUE, room::DUE + 1, -room::DUE - 1, i64::MIN, i64::MAX];
     let counts = [0, 1, 2, 3, 4, 5, 6, 255, 256, 257, 258, 1_000_000, usize::MAX];
     for _ in 0..=random.below(3) {
         // Most damage goes where the net has entries; the rest must not matter.
-        let rows = if random.chance(90) { tables.row_count.clamp(1, room::ROWS) } else { room::ROWS };
+        let rows =
+            if random.chance(90) { tables.row_count.clamp(1, room::ROWS) } else { room::ROWS };
         match random.below(10) {
             0 => tables.types[random.below(room::TYPES * room::TYPE_WORDS)] = random.pick(&values),
             1 => tables.due[random.below(rows)] = random.pick(&times),

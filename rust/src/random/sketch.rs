@@ -122,7 +122,7 @@ impl Sketch {
             Tree::Loose => random.below(row),
             Tree::Long => row - 1 - random.below(row.min(4)),
             Tree::Binary => (row - 1) / 2,
-            Tree::Comb if row % 2 == 0 => row - 1,
+            Tree::Comb if row.is_multiple_of(2) => row - 1,
             Tree::Comb => row.saturating_sub(2),
         };
         (0..self.rows).map(|row| if row == 0 { 0 } else { parent(row, random) }).collect()
@@ -147,7 +147,9 @@ impl Sketch {
     fn sink(&self, random: &mut Random, wire: Wire) -> Entry {
         let due = match self.values {
             Values::Typical => random.between(500_000, 3_000_000),
-            Values::Limits => random.pick(&[-room::DUE, 1 - room::DUE, 0, room::DUE - 1, room::DUE]),
+            Values::Limits => {
+                random.pick(&[-room::DUE, 1 - room::DUE, 0, room::DUE - 1, room::DUE])
+            }
             Values::Whole => random.between(-room::DUE, room::DUE),
             Values::Twins => 100,
             _ => random.between(-20, 120),

@@ -70,8 +70,8 @@ fn at_site(net: &Net, site: Option<usize>, driven: Vec<Choice>) -> Vec<Choice> {
     let mut all = driven.clone();
     for (index, repeater) in net.types().iter().enumerate() {
         for choice in &driven {
-            let delay = i64::from(repeater.own_delay)
-                + i64::from(repeater.resistance) * choice.pair.load;
+            let delay =
+                i64::from(repeater.own_delay) + i64::from(repeater.resistance) * choice.pair.load;
             let pair = Pair { load: repeater.input_load.into(), time: choice.pair.time - delay };
             all.push(Choice { pair, placement: choice.placement.with(site, index + 1) });
         }

@@ -122,7 +122,7 @@ fn refused_examples() {
 #[test]
 fn search_and_lists_agree() {
     let mut random = Random::new(1);
-    for _ in 0..6_000 {
+    for _ in 0..20_000 {
         let mut sketch = Sketch::any(&mut random, 9, 8);
         // At most about a thousand placements.
         sketch.sites = [8, 8, 6, 5, 4][sketch.types];

@@ -94,9 +94,7 @@ impl Tree {
 fn check_types(tables: &Tables) -> Result<(), Refusal> {
     let types = tables.types.chunks_exact(room::TYPE_WORDS).take(room::TYPES);
     for (index, words) in types.take(tables.type_count).enumerate() {
-        if words[0] > room::CAPACITANCE
-            || words[1] > room::RESISTANCE
-            || words[2] > room::OWN_DELAY
+        if words[0] > room::CAPACITANCE || words[1] > room::RESISTANCE || words[2] > room::OWN_DELAY
         {
             return Err(Refusal::at(2, index + 1));
         }

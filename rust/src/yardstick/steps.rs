@@ -176,13 +176,7 @@ pub fn join(work: &mut [Candidate], left: usize, right: usize, end: usize) -> us
 }
 
 /// One candidate against a list: the list up to the first that is as late, written from `to` on.
-fn join_one(
-    work: &mut [Candidate],
-    alone: Candidate,
-    from: usize,
-    end: usize,
-    to: usize,
-) -> usize {
+fn join_one(work: &mut [Candidate], alone: Candidate, from: usize, end: usize, to: usize) -> usize {
     let mut made = to;
     for at in from..end {
         let last = work[at].time >= alone.time;

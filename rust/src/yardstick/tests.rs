@@ -1,9 +1,11 @@
-use super::plan;
+use super::check;
+use super::{plan, steps, walk};
 use crate::conformance::{self, Areas};
 use crate::entries::Candidate;
 use crate::net::Net;
 use crate::random::{damage_tables, Lengths, Random, Sketch, Tree, Values};
 use crate::recipe;
+use crate::reference::{self, Pair};
 use crate::room;
 
 #[track_caller]
@@ -11,6 +13,28 @@ fn conforms(net: &Net, random: &mut Random) {
     let areas = Areas::filled(random, Lengths::ROOM);
     if let Err(difference) = conformance::plan_records(plan, net.tables().lent(), &areas) {
         panic!("{difference}\n{}", net.text());
+    }
+}
+
+/// The list that reaches the driver: a pair too many costs no slack, and would not show in a plan.
+fn list_at_driver(net: &Net) -> Vec<Pair> {
+    let words = net.tables();
+    let tables = words.lent();
+    let mut tree = check::Tree::new();
+    tree.check(&tables).expect("a good net");
+    let mut work = vec![Candidate::default(); room::WORK];
+    let (repeaters, count) = steps::by_load(&tables);
+    let end = walk(&tables, &tree, &repeaters[..count], &mut work);
+    work[..end].iter().map(|c| Pair { load: c.load as i64, time: c.time }).collect()
+}
+
+#[test]
+fn thinning_is_exact() {
+    let mut random = Random::new(16);
+    for round in 0..4_000 {
+        let rows = if round % 10 == 0 { room::ROWS } else { 15 };
+        let net = Sketch::any(&mut random, rows, room::SITES).net(&mut random);
+        assert_eq!(list_at_driver(&net), reference::list_at(&net, 0), "{}", net.text());
     }
 }
 
@@ -41,7 +65,8 @@ fn fullest_nets() {
         sketch.rows = room::ROWS;
         sketch.types = room::TYPES;
         sketch.site_percent = random.pick(&[25, 50, 100]);
-        sketch.tree = random.pick(&[Tree::Chain, Tree::Star, Tree::Loose, Tree::Binary, Tree::Comb]);
+        sketch.tree =
+            random.pick(&[Tree::Chain, Tree::Star, Tree::Loose, Tree::Binary, Tree::Comb]);
         sketch.values = random.pick(&[Values::Typical, Values::Whole]);
         conforms(&sketch.net(&mut random), &mut random);
     }
