@@ -2,6 +2,8 @@
 // call is lent and answers.
 pub mod answers;
 mod texts;
+ghost use Rattle.net.specs.TableSteps.{tablesOf, countsOf};
+ghost use Rattle.zombrict.specs.Calls.{ReadCall, CheckCall, SlackCall, PlanCall, ListCall};
 
 // Room: words of an answer.
 pub const ANSWER_ROOM: usize = 3;
@@ -17,7 +19,9 @@ pub extern "C" fn zombrict_read(
     rows: &mut [u32],
     due: &mut [i64],
     answer: &mut [i64],
-) -> u32 {
+) -> u32
+    ensures { λ r. ⌜ ReadCall (now (text .entry)) (tablesOf (now (types .entry)) (now (rows .entry)) (now (due .entry))) (tablesOf (now (types .exit)) (now (rows .exit)) (now (due .exit))) (now (answer .entry)) (now (answer .exit)) r ⌝ }
+{
     if answer.len() < ANSWER_ROOM {
         return SHORT;
     }
@@ -34,7 +38,9 @@ pub extern "C" fn zombrict_check(
     type_count: usize,
     row_count: usize,
     answer: &mut [i64],
-) -> u32 {
+) -> u32
+    ensures { λ r. ⌜ CheckCall (tablesOf (now (types .entry)) (now (rows .entry)) (now (due .entry))) (countsOf «type_count» «row_count») (now (answer .entry)) (now (answer .exit)) r ⌝ }
+{
     if answer.len() < ANSWER_ROOM {
         return SHORT;
     }
@@ -52,7 +58,9 @@ pub extern "C" fn zombrict_slack(
     row_count: usize,
     placement: &[u64],
     answer: &mut [i64],
-) -> u32 {
+) -> u32
+    ensures { λ r. ⌜ SlackCall (tablesOf (now (types .entry)) (now (rows .entry)) (now (due .entry))) (countsOf «type_count» «row_count») (now (placement .entry)) (now (answer .entry)) (now (answer .exit)) r ⌝ }
+{
     if answer.len() < ANSWER_ROOM {
         return SHORT;
     }
@@ -73,7 +81,9 @@ pub extern "C" fn zombrict_plan(
     times: &mut [i64],
     words: &mut [u64],
     answer: &mut [i64],
-) -> u32 {
+) -> u32
+    ensures { λ r. ⌜ PlanCall (tablesOf (now (types .entry)) (now (rows .entry)) (now (due .entry))) (countsOf «type_count» «row_count») (now (placement .entry)) (now (placement .exit)) (columnsOf (now (loads .entry)) (now (times .entry)) (now (words .entry))) (columnsOf (now (loads .exit)) (now (times .exit)) (now (words .exit))) (now (answer .entry)) (now (answer .exit)) r ⌝ }
+{
     if answer.len() < ANSWER_ROOM {
         return SHORT;
     }
@@ -98,7 +108,9 @@ pub extern "C" fn zombrict_list(
     times: &mut [i64],
     words: &mut [u64],
     answer: &mut [i64],
-) -> u32 {
+) -> u32
+    ensures { λ r. ⌜ ListCall (tablesOf (now (types .entry)) (now (rows .entry)) (now (due .entry))) (countsOf «type_count» «row_count») row (lentOf (now («list_loads» .entry)) (now («list_times» .entry))) (lentOf (now («list_loads» .exit)) (now («list_times» .exit))) (columnsOf (now (loads .entry)) (now (times .entry)) (now (words .entry))) (columnsOf (now (loads .exit)) (now (times .exit)) (now (words .exit))) (now (answer .entry)) (now (answer .exit)) r ⌝ }
+{
     if answer.len() < ANSWER_ROOM {
         return SHORT;
     }

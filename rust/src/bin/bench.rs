@@ -2,9 +2,9 @@
 //! the yardstick's. With the feature `linked` the proved planner is one of them. Another joins by a
 //! line in `planners`.
 //!
-//! `bench` times every set; `bench SECONDS` gives each planner about so long on each set. `bench
-//! SECONDS again` times the yardstick a second time as if it were another planner: its ratio is
-//! the noise of the machine.
+//! `bench` times every set. A number is about how many seconds each planner has on each set; `again`
+//! times the yardstick a second time as if it were another planner: its ratio is the noise of the
+//! machine; any other word picks the sets whose names hold it.
 
 use std::hint::black_box;
 use std::time::{Duration, Instant};
@@ -177,11 +177,16 @@ fn whole_chip(planners: &[Planner]) {
 }
 
 fn main() {
-    let seconds = std::env::args().nth(1).and_then(|word| word.parse().ok()).unwrap_or(1.0);
-    let planners = planners(std::env::args().nth(2).is_some());
-    for set in sets() {
+    let words: Vec<String> = std::env::args().skip(1).collect();
+    let seconds = words.iter().find_map(|word| word.parse().ok()).unwrap_or(1.0);
+    let planners = planners(words.iter().any(|word| word == "again"));
+    let mut picks = words.iter().filter(|word| word.parse::<f64>().is_err() && *word != "again");
+    let pick = picks.next().map_or("", String::as_str);
+    for set in sets().iter().filter(|set| set.name.contains(pick)) {
         let times = time(&planners, &set.nets, Duration::from_secs_f64(seconds));
         report(set.name, set.nets.len(), &planners, &times);
     }
-    whole_chip(&planners);
+    if "169,000 typical".contains(pick) {
+        whole_chip(&planners);
+    }
 }
