@@ -1,0 +1,130 @@
+-- What hangs somewhere as a load and a time: nothing, or both. The steps from the sinks up, and that they give the load and the time of
+-- the tree that hangs there. Assumes nothing.
+use mathlib.Core.Path.{_≡_, refl, sym, ap, ap₂, _∙_}
+use mathlib.Core.Bool.{Bool, true, false}
+use mathlib.Core.List.{List, [], _∷_}
+use mathlib.Core.Option.{Option, none, some}
+use Prim.Native.Nat.{ℕ, zero, suc, _+_, _*_, _≤_, _<_}
+use native.Mathlib.Omega.{arith}
+use lib.IntN.{ℤ}
+use lib.ListN.{length, getD}
+use lib.Signed.{mag}
+use Rattle.rules.specs.declared.Femtofarad.{Femtofarad}
+use Rattle.rules.specs.declared.Femtosecond.{Femtosecond}
+use Rattle.rules.specs.declared.Kind.{Kind}
+use Rattle.rules.specs.declared.Kind.the-variants.{Driver, Point, Sink}
+use Rattle.rules.specs.Quantities.{_⊖_, mostOhms, mostLoad, typesRoom, sitesRoom, placementRoom}
+use Rattle.rules.specs.Entries.{Repeater}
+use Rattle.rules.specs.Placements.{Placement, marks}
+use Rattle.rules.specs.Tables.{typeWords}
+use Rattle.laws.specs.Tabled.{repeaterAt, repeatersFrom, repeaters-at}
+use Rattle.laws.specs.Ranges.{RepeaterInRange}
+use Rattle.rules.specs.Net.{Wire, Tree, sink, site, wire, both, sited, seen, wired, beside}
+use Rattle.rules.specs.Slack.{typeOf, seenLoad, repeaterDelay, wireDelay, load}
+use Rattle.laws.specs.Integers.{minℤ, ⊖-zero}
+use Rattle.laws.specs.Trees.{time}
+use Rattle.slack.specs.declared.Hung.{Hung}
+use Rattle.slack.specs.declared.Hung.the-variants.{Nothing, Seen}
+
+-- a load and a time, as they are held
+abbrev pub seenAs : ℕ → ℤ → Hung
+seenAs l t = Seen (record { 0 = l }) (record { 0 = t })
+
+pub seen-is : (l : Femtofarad) (t : Femtosecond) (a : ℕ) (b : ℤ) → l .0 ≡ a → t .0 ≡ b → Seen l t ≡ seenAs a b
+seen-is l t a b e f = λ i. Seen (record { 0 = e i }) (record { 0 = f i })
+
+-- no farther from zero than any slack, which lies between -3 × 10^15 and 10^12
+abbrev pub farTime : ℕ
+farTime = 3_000_000_000_000_000
+
+-- in its ranges
+abbrev pub Within : Hung → Type 0
+Within Nothing = Unit {0}
+Within (Seen l t) = (l .0 ≤ mostLoad) × (mag (t .0) ≤ farTime)
+
+-- ---- the steps
+unfoldable pub wireHung : (resistance capacitance : ℕ) → Hung → Hung
+wireHung r c Nothing = Nothing
+wireHung r c (Seen l t) = seenAs (c + l .0) (t .0 ⊖ (r * (c + l .0)))
+
+unfoldable pub besideHung : Hung → Hung → Hung
+besideHung Nothing b = b
+besideHung (Seen l t) Nothing = Seen l t
+besideHung (Seen l t) (Seen m u) = seenAs (l .0 + m .0) (minℤ (t .0) (u .0))
+
+-- behind a repeater of a type
+unfoldable pub repeatHung : Repeater → Hung → Hung
+repeatHung x Nothing = Nothing
+repeatHung x (Seen l t) = seenAs (x .input) (t .0 ⊖ (x .own + x .resistance * l .0))
+
+unfoldable pub markHung : List Repeater → (mark : ℕ) → Hung → Hung
+markHung types zero h = h
+markHung types (suc m) h = repeatHung (typeOf types (suc m)) h
+
+unfoldable pub siteHung : List Repeater → Bool → (mark : ℕ) → Hung → Hung
+siteHung types true mark h = markHung types mark h
+siteHung types false mark h = h
+
+-- a sink's pin, or what hangs under the row
+abbrev pub startHung : Kind → Hung → Hung
+startHung Driver h = h
+startHung Point h = h
+startHung (Sink pin) h = seenAs (pin .load .0) (pin .due .0)
+
+-- ---- what they give
+module _ (types : List Repeater) (p : Placement) where
+  unfoldable pub hungOf : Option Tree → Hung
+  hungOf none = Nothing
+  hungOf (some t) = seenAs (load types p t) (time types p t)
+
+  pub hung-wired : (w : Wire) (u : Option Tree) → hungOf (wired w u) ≡ wireHung (w .resistance) (w .capacitance) (hungOf u)
+  unfolding hungOf wireHung load time wireDelay
+  hung-wired w none = refl
+  hung-wired w (some t) = refl
+
+  pub hung-beside : (u v : Option Tree) → hungOf (beside u v) ≡ besideHung (hungOf u) (hungOf v)
+  unfolding hungOf besideHung load time
+  hung-beside none v = refl
+  hung-beside (some t) none = refl
+  hung-beside (some t) (some s) = refl
+
+  hung-site : (k : ℕ) (t : Tree) (mark : ℕ) → mark ≡ p k → seenAs (load types p (site k t)) (time types p (site k t)) ≡ markHung types mark (seenAs (load types p t) (time types p t))
+  unfolding load time markHung repeatHung seenLoad repeaterDelay
+  hung-site k t zero e = rw (← e) (ap (seenAs (load types p t)) (⊖-zero (time types p t)))
+  hung-site k t (suc m) e = rw (← e)
+
+  hung-sited : (b : Bool) (k : ℕ) (t : Tree) → hungOf (some (sited b k t)) ≡ siteHung types b (p k) (hungOf (some t))
+  unfolding hungOf siteHung
+  hung-sited true k t = hung-site k t (p k) refl
+  hung-sited false k t = refl
+
+  mark-nothing : (mark : ℕ) → markHung types mark Nothing ≡ Nothing
+  unfolding markHung repeatHung
+  mark-nothing zero = refl
+  mark-nothing (suc m) = refl
+
+  site-nothing : (b : Bool) (mark : ℕ) → siteHung types b mark Nothing ≡ Nothing
+  unfolding siteHung
+  site-nothing true mark = mark-nothing mark
+  site-nothing false mark = refl
+
+  pub hung-seen : (b : Bool) (kind : Kind) (k : ℕ) (u : Option Tree) → hungOf (seen b kind k u) ≡ siteHung types b (p k) (startHung kind (hungOf u))
+  unfolding hungOf load time
+  hung-seen b Driver k none = sym (site-nothing b (p k))
+  hung-seen b Driver k (some t) = hung-sited b k t
+  hung-seen b Point k none = sym (site-nothing b (p k))
+  hung-seen b Point k (some t) = hung-sited b k t
+  hung-seen b (Sink pin) k u = hung-sited b k (sink (pin .load .0) (pin .due .0))
+
+-- ---- a site in the code: its mark is that of a type there is, in its ranges
+pub record Siting (types : List ℕ) (words : List ℕ) (hasSite : Bool) (k : ℕ) (h : Hung) : Type 0 where
+  pub types-long : typeWords * typesRoom ≤ length types
+  pub words-long : placementRoom ≤ length words
+  pub inside : Within h
+  pub site : hasSite ≡ true → k < sitesRoom
+  pub mark : hasSite ≡ true → marks words k ≤ typesRoom
+  pub known : hasSite ≡ true → (m : ℕ) → m < marks words k → RepeaterInRange (repeaterAt types m)
+
+pub type-is : (types : List ℕ) (count m : ℕ) → m < count → typeOf (repeatersFrom types 0 count) (suc m) ≡ repeaterAt types m
+unfolding typeOf
+type-is types count m h = repeaters-at types _ 0 count m h ∙ (let z : 0 + m ≡ m = omega arith in ap (repeaterAt types) z)
