@@ -1,19 +1,22 @@
 -- What hangs somewhere as a load and a time: nothing, or both. The steps from the sinks up, and that they give the load and the time of
 -- the tree that hangs there. Assumes nothing.
-use mathlib.Core.Path.{_≡_, refl, sym, ap, ap₂, _∙_}
+use mathlib.Core.Path.{_≡_, refl, sym, ap, subst, _∙_}
 use mathlib.Core.Bool.{Bool, true, false}
 use mathlib.Core.List.{List, [], _∷_}
 use mathlib.Core.Option.{Option, none, some}
-use Prim.Native.Nat.{ℕ, zero, suc, _+_, _*_, _≤_, _<_}
+use Prim.Native.Nat.{ℕ, zero, suc, _+_, _*_, _-_, _≤_, _<_}
 use native.Mathlib.Omega.{arith}
-use lib.IntN.{ℤ}
+use lib.IntN.{ℤ, pos, _-ℤ_}
 use lib.ListN.{length, getD}
 use lib.Signed.{mag}
 use Rattle.rules.specs.declared.Femtofarad.{Femtofarad}
 use Rattle.rules.specs.declared.Femtosecond.{Femtosecond}
 use Rattle.rules.specs.declared.Kind.{Kind}
+use Rattle.rules.specs.declared.Refusal.the-variants.{NoRow}
+use Rattle.rules.specs.declared.Slacking.{Slacking}
+use Rattle.rules.specs.declared.Slacking.the-variants.{Slack, Refused}
 use Rattle.rules.specs.declared.Kind.the-variants.{Driver, Point, Sink}
-use Rattle.rules.specs.Quantities.{_⊖_, mostOhms, mostLoad, typesRoom, sitesRoom, placementRoom}
+use Rattle.rules.specs.Quantities.{_⊖_, mostOhms, mostOwn, mostLoad, typesRoom, sitesRoom, placementRoom}
 use Rattle.rules.specs.Entries.{Repeater}
 use Rattle.rules.specs.Placements.{Placement, marks}
 use Rattle.rules.specs.Tables.{typeWords}
@@ -21,8 +24,10 @@ use Rattle.laws.specs.Tabled.{repeaterAt, repeatersFrom, repeaters-at}
 use Rattle.laws.specs.Ranges.{RepeaterInRange}
 use Rattle.rules.specs.Net.{Wire, Tree, sink, site, wire, both, sited, seen, wired, beside}
 use Rattle.rules.specs.Slack.{typeOf, seenLoad, repeaterDelay, wireDelay, load}
-use Rattle.laws.specs.Integers.{minℤ, ⊖-zero}
+use Rattle.laws.specs.Integers.{minℤ, ⊖-zero, ⊖-⊖}
 use Rattle.laws.specs.Trees.{time}
+use Rattle.rows.specs.declared.Buffer.{Buffer}
+use Rattle.rows.specs.Rows.{IsBuffer}
 use Rattle.slack.specs.declared.Hung.{Hung}
 use Rattle.slack.specs.declared.Hung.the-variants.{Nothing, Seen}
 
@@ -117,14 +122,54 @@ module _ (types : List Repeater) (p : Placement) where
   hung-seen b (Sink pin) k u = hung-sited b k (sink (pin .load .0) (pin .due .0))
 
 -- ---- a site in the code: its mark is that of a type there is, in its ranges
-pub record Siting (types : List ℕ) (words : List ℕ) (hasSite : Bool) (k : ℕ) (h : Hung) : Type 0 where
+-- the types as they stand, whether counted or not
+abbrev pub tableTypes : List ℕ → List Repeater
+tableTypes types = repeatersFrom types 0 typesRoom
+
+pub record Siting (types : List ℕ) (words : List ℕ) (k : ℕ) (h : Hung) : Type 0 where
   pub types-long : typeWords * typesRoom ≤ length types
   pub words-long : placementRoom ≤ length words
   pub inside : Within h
-  pub site : hasSite ≡ true → k < sitesRoom
-  pub mark : hasSite ≡ true → marks words k ≤ typesRoom
-  pub known : hasSite ≡ true → (m : ℕ) → m < marks words k → RepeaterInRange (repeaterAt types m)
+  pub site : k < sitesRoom
+  pub mark : marks words k ≤ typesRoom
+  pub known : (m : ℕ) → m < marks words k → RepeaterInRange (repeaterAt types m)
 
 pub type-is : (types : List ℕ) (count m : ℕ) → m < count → typeOf (repeatersFrom types 0 count) (suc m) ≡ repeaterAt types m
 unfolding typeOf
 type-is types count m h = repeaters-at types _ 0 count m h ∙ (let z : 0 + m ≡ m = omega arith in ap (repeaterAt types) z)
+
+-- a mark that is not 0 is the number of a type, of those as they stand
+pub mark-type : (types : List ℕ) (mark : ℕ) (h : Hung) → 0 < mark → mark ≤ typesRoom → markHung (tableTypes types) mark h ≡ repeatHung (repeaterAt types (mark - 1)) h
+unfolding markHung
+mark-type types zero h p q = absurd (omega arith)
+mark-type types (suc m) h p q = let z : suc m - 1 ≡ m = omega arith in rw (z, type-is types typesRoom m (omega arith))
+
+-- one of a type in its ranges is
+pub buffer-in : {x : Repeater} {b : Buffer} → IsBuffer x b → RepeaterInRange x → (b .resistance .0 ≤ mostOhms) × (mag (b .own .0) ≤ mostOwn)
+buffer-in i r = rw (i .resistance, i .own) (r .resistance, r .own)
+
+-- ---- at the driver: its delay is its resistance times its driven load
+unfoldable pub slackHung : (driver : ℕ) → Hung → Slacking
+slackHung driver Nothing = Refused NoRow
+slackHung driver (Seen l t) = Slack (record { 0 = t .0 ⊖ (driver * l .0) }) l
+
+-- ---- the same by cases, as the code goes
+pub within-at : {h : Hung} {l : Femtofarad} {t : Femtosecond} → h ≡ Seen l t → Within h → (l .0 ≤ mostLoad) × (mag (t .0) ≤ farTime)
+within-at e w = subst (λ h. Within h) e w
+
+pub wire-seen : (r c : ℕ) {h : Hung} {l : Femtofarad} {t : Femtosecond} → h ≡ Seen l t → wireHung r c h ≡ seenAs (c + l .0) (t .0 ⊖ (r * (c + l .0)))
+unfolding wireHung
+wire-seen r c e = rw e
+
+pub beside-seen : {a b : Hung} {l m : Femtofarad} {t u : Femtosecond} → a ≡ Seen l t → b ≡ Seen m u → besideHung a b ≡ seenAs (l .0 + m .0) (minℤ (t .0) (u .0))
+unfolding besideHung
+beside-seen e f = rw (e, f)
+
+-- a type with its three quantities apart
+pub repeat-seen : {x : Repeater} {b : Buffer} {h : Hung} {l : Femtofarad} {t : Femtosecond} → IsBuffer x b → h ≡ Seen l t → repeatHung x h ≡ seenAs (b .input .0) (t .0 -ℤ b .own .0 -ℤ pos (b .resistance .0 * l .0))
+unfolding repeatHung _⊖_
+repeat-seen {x} {b} {h} {l} {t} i e = rw (e, i .input, i .resistance, i .own) (ap (seenAs (x .input)) (sym (⊖-⊖ (t .0) (x .own) (x .resistance * l .0))))
+
+pub slack-seen : (driver : ℕ) {h : Hung} {l : Femtofarad} {t s : Femtosecond} → h ≡ Seen l t → s .0 ≡ t .0 ⊖ (driver * l .0) → Slack s l ≡ slackHung driver h
+unfolding slackHung
+slack-seen driver {h} {l} {t} {s} e f = rw e (λ i. Slack (record { 0 = f i }) l)

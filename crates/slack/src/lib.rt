@@ -1,23 +1,15 @@
-// The slack of a given placement: loads and times from the sinks up, by recursion over the tree.
-use rows::Buffer;
+// The slack of a given placement: what is refused first, then loads and times from the sinks up, by recursion over the tree.
 use rules::Femtofarad;
 use rules::Femtosecond;
-use rules::Kind;
 use rules::Ohm;
+use rules::Refusal;
+use rules::Slacking;
 ghost use mathlib.Core.Path.{_≡_};
-ghost use Prim.Native.Nat.{ℕ, _+_, _*_, _≤_, _<_};
-ghost use lib.ListN.{length, getD};
-ghost use Rattle.rules.specs.Quantities.{mostOhms, mostFemtofarads, mostOwn, mostLoad};
-ghost use Rattle.rules.specs.Entries.{Repeater};
-ghost use Rattle.laws.specs.Ranges.{RepeaterInRange};
-ghost use Rattle.rows.specs.Rows.{IsBuffer};
-ghost use lib.IntN.{pos, _-ℤ_};
-ghost use lib.Signed.{mag};
-ghost use Rattle.rules.specs.Quantities.{_⊖_};
-ghost use Rattle.laws.specs.Integers.{minℤ};
-ghost use Rattle.slack.specs.Hung.{seenAs, farTime, Within, wireHung, besideHung, repeatHung, startHung, siteHung, Siting};
-ghost use Rattle.rules.specs.Placements.{marks};
-ghost use Rattle.laws.specs.Tabled.{repeatersFrom};
+ghost use Prim.Native.Nat.{_≤_};
+ghost use Rattle.rules.specs.Quantities.{mostOhms};
+ghost use Rattle.slack.specs.Hung.{Within, slackHung};
+
+mod steps;
 
 // What hangs somewhere: nothing, or the load it shows and its time.
 pub enum Hung {
@@ -25,100 +17,14 @@ pub enum Hung {
     Seen(Femtofarad, Femtosecond),
 }
 
-// Behind a wire: the whole capacitance counts at the far end.
-fn seen_behind_wire(l: Femtofarad, t: Femtosecond, r: Ohm, c: Femtofarad) -> Hung
-    requires { ⌜ (r .0 ≤ mostOhms) × ((c .0 + l .0 ≤ mostLoad) × (mag (t .0) ≤ farTime)) ⌝ }
-    ensures { λ s. ⌜ s ≡ seenAs (c .0 + l .0) (t .0 ⊖ (r .0 * (c .0 + l .0))) ⌝ }
+// The time at the driver less the driver's delay. Something hangs under every driver, so `Nothing` never comes here.
+fn slack_at(h: Hung, driver: Ohm) -> Slacking
+    requires { ⌜ (driver .0 ≤ mostOhms) × Within h ⌝ }
+    ensures { λ r. ⌜ r ≡ slackHung (driver .0) h ⌝ }
 {
-    let load = units::together(c, l);
-    let time = units::less(t, units::delay(r, load));
-    Hung::Seen(load, time)
-}
-
-fn behind_wire(h: Hung, r: Ohm, c: Femtofarad) -> Hung
-    requires { ⌜ (r .0 ≤ mostOhms) × (Within h × Within (wireHung (r .0) (c .0) h)) ⌝ }
-    ensures { λ s. ⌜ s ≡ wireHung (r .0) (c .0) h ⌝ }
-{
-    match h {
-        Hung::Nothing => Hung::Nothing,
-        Hung::Seen(l, t) => seen_behind_wire(l, t, r, c),
-    }
-}
-
-// Two beside each other: their loads together, and the time of the one that is due first.
-fn seen_beside(l: Femtofarad, t: Femtosecond, m: Femtofarad, u: Femtosecond) -> Hung
-    requires { ⌜ l .0 + m .0 ≤ mostLoad ⌝ }
-    ensures { λ s. ⌜ s ≡ seenAs (l .0 + m .0) (minℤ (t .0) (u .0)) ⌝ }
-{
-    let load = units::together(l, m);
-    let time = units::earlier(t, u);
-    Hung::Seen(load, time)
-}
-
-fn beside(a: Hung, b: Hung) -> Hung
-    requires { ⌜ Within (besideHung a b) ⌝ }
-    ensures { λ s. ⌜ s ≡ besideHung a b ⌝ }
-{
-    let Hung::Seen(l, t) = a else {
-        return b;
+    let Hung::Seen(load, time) = h else {
+        return Slacking::Refused(Refusal::NoRow);
     };
-    let Hung::Seen(m, u) = b else {
-        return a;
-    };
-    seen_beside(l, t, m, u)
-}
-
-// Behind a repeater, worked out from the load it drives: it shows its own input load upward.
-fn seen_repeated(l: Femtofarad, t: Femtosecond, b: Buffer) -> Hung
-    requires { ⌜ (b .resistance .0 ≤ mostOhms) × ((mag (b .own .0) ≤ mostOwn) × ((l .0 ≤ mostLoad) × (mag (t .0) ≤ farTime))) ⌝ }
-    ensures { λ s. ⌜ s ≡ seenAs (b .input .0) (t .0 -ℤ b .own .0 -ℤ pos (b .resistance .0 * l .0)) ⌝ }
-{
-    let own = b.own;
-    let resistance = b.resistance;
-    let input = b.input;
-    let early = units::less(t, own);
-    let time = units::less(early, units::delay(resistance, l));
-    Hung::Seen(input, time)
-}
-
-fn repeated(h: Hung, b: Buffer) -> Hung
-    requires { ⌜ Within h × ((b .resistance .0 ≤ mostOhms) × (mag (b .own .0) ≤ mostOwn)) ⌝ }
-    ensures { λ s. ⌜ ((x : Repeater) → IsBuffer x b → s ≡ repeatHung x h) ⌝ }
-{
-    match h {
-        Hung::Nothing => Hung::Nothing,
-        Hung::Seen(l, t) => seen_repeated(l, t, b),
-    }
-}
-
-// What a row starts from: a sink its pin, any other row what hangs under it.
-fn started(kind: Kind, under: Hung) -> Hung
-    ensures { λ s. ⌜ s ≡ startHung kind under ⌝ }
-{
-    match kind {
-        Kind::Driver => under,
-        Kind::Point => under,
-        Kind::Sink(pin) => {
-            let load = pin.load;
-            let due = pin.due;
-            Hung::Seen(load, due)
-        }
-    }
-}
-
-// With the repeater of a site that is marked, if it is one.
-fn sited(types: &[u32], words: &[u64], site: bool, k: usize, h: Hung) -> Hung
-    requires { ⌜ Siting (now types) (now words) site k h ⌝ }
-    ensures { λ s. ⌜ ((count : ℕ) → marks (now (words .entry)) k ≤ count → s ≡ siteHung (repeatersFrom (now (types .entry)) 0 count) site (marks (now (words .entry)) k) h) ⌝ }
-{
-    if !site {
-        return h;
-    }
-    let mark = marks::mark_of(words, k);
-    if mark == 0 {
-        return h;
-    }
-    let number = mark as usize;
-    let b = rows::type_at(types, number - 1);
-    repeated(h, b)
+    let slack = units::less(time, units::delay(driver, load));
+    Slacking::Slack { slack, load }
 }
