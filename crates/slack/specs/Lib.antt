@@ -1,1 +1,3 @@
+-- What the contracts of `slack` cite, and the laws that callers cite. Assumes nothing.
 pub mod Hung
+pub mod Ready

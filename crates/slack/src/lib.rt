@@ -10,6 +10,7 @@ ghost use Rattle.rules.specs.Quantities.{mostOhms};
 ghost use Rattle.slack.specs.Hung.{Within, slackHung};
 
 mod steps;
+mod tree;
 
 // What hangs somewhere: nothing, or the load it shows and its time.
 pub enum Hung {
