@@ -18,5 +18,8 @@ pub mod Whole
 pub mod Legality
 pub mod Sums
 pub mod Within
+pub mod Waiting
+pub mod Room
+pub mod MethodAt
 pub mod Walk
 pub mod Tabled
