@@ -25,6 +25,7 @@ use Rattle.laws.specs.Walk.{noRow, sitesBefore, sitesBefore-step, under, under-
 use Rattle.rows.specs.Links.{Links, Earlier, Standing, nextAt, sitesAt, row-is}
 use Rattle.slack.specs.declared.Hung.{Hung}
 use Rattle.slack.specs.declared.Hung.the-variants.{Nothing}
+use Rattle.slack.specs.Sites.{site-number}
 use Rattle.slack.specs.Hung.{seenAs, farTime, Within, wireHung, besideHung, siteHung, startHung, hungOf, hung-wired, hung-beside, hung-seen, tableTypes, Siting}
 
 -- what hangs under the parent of row c among the rows from c on, and what is at row i
@@ -63,20 +64,6 @@ child-under net r i c k = go (decLt c (length net))
     go : Dec (c < length net) → under net (getD net c noRow .parent) c ≡ under net r i
     go (yes h) = rw (k .below h) (sym (k .same))
     go (no h) = under-end net _ c (omega arith) ∙ sym (under-end net r c (omega arith)) ∙ sym (k .same)
-
-sites-take : (i : ℕ) (net : List Row) → sitesOf (take i net) ≤ sitesOf net
-unfolding sitesOf
-sites-take zero net = omega arith
-sites-take (suc i) [] = omega arith
-sites-take (suc i) (x ∷ net) = omega (arith, sites-take i net)
-
--- a row with a site has one of the net's
-site-number : (net : List Row) (i : ℕ) → i < length net → getD net i noRow .site ≡ true → sitesBefore net i < sitesOf net
-unfolding sitesBefore
-site-number net i h e = omega (arith, sites-take (i + 1) net, before)
-  where
-    before : sitesOf (take (i + 1) net) ≡ sitesBefore net i + 1
-    before = sitesBefore-step net i h ∙ ap (λ b. sitesBefore net i + siteCount b) e
 
 start-in : (kind : Kind) (h : Hung) → KindIn kind → Within h → Within (startHung kind h)
 start-in Driver h k w = w
@@ -118,17 +105,17 @@ module _ {rows : List ℕ} {due : List ℤ} {types words links : List ℕ} {n : 
     wire-needs e = (rw row at (R .sound .row-in c inside .resistance), (rw e (R .sound .seen-in c inside), rw (own-is e) (R .sound .own-in c some inside)))
 
     module _ {h own later : Hung} {next : ℕ} (h-is : h ≡ hungAt rows due types words n c) (own-by : own ≡ wireHung (x .resistance .0) (x .capacitance .0) h) (next-is : next ≡ getD links (nextAt + c) 0) (later-is : later ≡ hungBelow rows due types words n next) where
-      pub below-step : besideHung own later ≡ hungBelow rows due types words n c
+      pub below-step : {all : Hung} → all ≡ besideHung own later → all ≡ hungBelow rows due types words n c
       unfolding hungBelow
-      below-step =
+      below-step e =
           let t = under-taken net (getD net c noRow .parent) c (rw long inside) refl in
-          ap₂ besideHung (own-by ∙ own-is h-is) (later-is ∙ below-is (getD net c noRow .parent) (c + 1) next (next-child c some inside next-is))
+          e ∙ ap₂ besideHung (own-by ∙ own-is h-is) (later-is ∙ below-is (getD net c noRow .parent) (c + 1) next (next-child c some inside next-is))
           ∙ sym (hung-beside (tableTypes types) (marks words) (wired (wireOf (getD net c noRow)) (seenAt net c)) (under net (getD net c noRow .parent) (c + 1)))
           ∙ ap (hungOf (tableTypes types) (marks words)) (sym t)
 
       pub beside-needs : Within (besideHung own later)
       unfolding hungBelow
-      beside-needs = rw below-step (R .sound .under-in (getD net c noRow .parent) c (R .sound .earlier c some (rw long inside)))
+      beside-needs = rw (below-step refl) (R .sound .under-in (getD net c noRow .parent) c (R .sound .earlier c some (rw long inside)))
 
   module _ (i : ℕ) {x : Row} {first : ℕ} {below : Hung} {k : ℕ} (inside : i < n) (x-is : x ≡ rowAt rows due i) (first-is : first ≡ getD links i 0) (below-by : below ≡ hungBelow rows due types words n first) (k-is : k ≡ getD links (sitesAt + i) 0) where
     there : getD net i noRow ≡ x
@@ -151,6 +138,6 @@ module _ {rows : List ℕ} {due : List ℤ} {types words links : List ℕ} {n : 
       known = R .sound .known k;
     }
 
-    pub seen-step : {driven : Hung} → driven ≡ startHung (x .kind) below → siteHung (tableTypes types) (x .site) (marks words k) driven ≡ hungAt rows due types words n i
+    pub seen-step : {driven there : Hung} → driven ≡ startHung (x .kind) below → there ≡ siteHung (tableTypes types) (x .site) (marks words k) driven → there ≡ hungAt rows due types words n i
     unfolding hungAt seenAt
-    seen-step e = rw (e, hanging, number, ← there) (sym (hung-seen (tableTypes types) (marks words) (getD net i noRow .site) (getD net i noRow .kind) (sitesBefore net i) (under net i (i + 1))))
+    seen-step e f = rw (f, e, hanging, number, ← there) (sym (hung-seen (tableTypes types) (marks words) (getD net i noRow .site) (getD net i noRow .kind) (sitesBefore net i) (under net i (i + 1))))

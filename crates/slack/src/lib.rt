@@ -11,6 +11,7 @@ ghost use Rattle.slack.specs.Hung.{Within, slackHung};
 
 mod steps;
 mod tree;
+mod legal;
 
 // What hangs somewhere: nothing, or the load it shows and its time.
 pub enum Hung {

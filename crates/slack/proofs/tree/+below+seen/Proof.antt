@@ -1,5 +1,4 @@
 use Rattle.laws.specs.Tabled.{rows-length}
-use mathlib.Core.Path.{_≡_, sym, _∙_}
 use Prim.Native.Nat.{ℕ, _+_, _*_, _-_, _<_}
 use native.Mathlib.Omega.{arith}
 use Rattle.rules.specs.Quantities.{rowsRoom}
@@ -212,7 +211,7 @@ below-returns-2 : (t : ℕ) → below-lts.Need-returns-2 (
 below-returns-2 t c =
     let s = c .before .before .before .before .before .before .before .before .before .before .before in
     let more : s .args .c < s .args .n = omega (arith, c .before .before .before .before .before .before .if1 .left) in
-    c .beside .ensures ∙ below-step (s .pre .1 .0) (s .args .c) (s .pre .1 .1 .0) more (c .before .before .before .before .before .row-at .ensures) (c .before .before .before .before .seen .ensures) (c .before .before .before .behind-wire .ensures) (c .before .before .link-at .ensures) (c .before .below .ensures)
+    below-step (s .pre .1 .0) (s .args .c) (s .pre .1 .1 .0) more (c .before .before .before .before .before .row-at .ensures) (c .before .before .before .before .seen .ensures) (c .before .before .before .behind-wire .ensures) (c .before .before .link-at .ensures) (c .before .below .ensures) (c .beside .ensures)
 
 -- src/tree.rt:48:9
 seen-link-at-requires : (t : ℕ) → seen-lts.Need-link-at-requires (
@@ -345,7 +344,7 @@ seen-returns : (t : ℕ) → seen-lts.Need-returns (
 ) (seen-at t) seen.Post
 seen-returns t c =
     let s = c .before .before .before .before .before .before .before .before .before .before in
-    c .sited .ensures ∙ seen-step (s .pre .1 .0) (s .args .row) (s .pre .1 .1) (c .before .before .before .row-at .ensures) (c .before .before .before .before .before .link-at .ensures) (c .before .before .before .before .below .ensures) (c .before .before .link-at2 .ensures) (c .before .started .ensures)
+    seen-step (s .pre .1 .0) (s .args .row) (s .pre .1 .1) (c .before .before .before .row-at .ensures) (c .before .before .before .before .before .link-at .ensures) (c .before .before .before .before .below .ensures) (c .before .before .link-at2 .ensures) (c .before .started .ensures) (c .sited .ensures)
 
 pub +below+seen-spec : {M : Type 1} → statement M
 +below+seen-spec = close μ-below μ-seen (λ t. below-lts.spec (
