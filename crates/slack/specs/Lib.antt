@@ -2,4 +2,6 @@
 pub mod Sites
 pub mod Hung
 pub mod Ready
+pub mod Sound
 pub mod Marked
+pub mod Given

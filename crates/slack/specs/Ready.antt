@@ -70,6 +70,10 @@ start-in Driver h k w = w
 start-in Point h k w = w
 start-in (Sink pin) h (l, from, to) w = (omega arith, omega (arith, mag-between (pin .due .0) 999_999_999_999 1_000_000_000_000 {h = 1_000_000_000_001} from to (omega arith) (omega arith)))
 
+-- what the driver needs
+pub driver-needs : {rows : List ℕ} {due : List ℤ} {types words : List ℕ} {n : ℕ} {x : Row} {h : Hung} → Sound rows due types words n → x ≡ rowAt rows due 0 → h ≡ hungAt rows due types words n 0 → (x .resistance .0 ≤ mostOhms) × Within h
+driver-needs {rows} {due} {n = n} {x} S e f = (rw (row-is rows due n 0 x (S .standing .some) e) at (S .row-in 0 (S .standing .some) .resistance), rw f (S .seen-in 0 (S .standing .some)))
+
 -- ---- the calls
 module _ {rows : List ℕ} {due : List ℤ} {types words links : List ℕ} {n : ℕ} (R : Ready rows due types words links n) where
   abbrev net : List Row

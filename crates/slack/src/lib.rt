@@ -1,4 +1,5 @@
 // The slack of a given placement: what is refused first, then loads and times from the sinks up, by recursion over the tree.
+use rules::Checking;
 use rules::Femtofarad;
 use rules::Femtosecond;
 use rules::Ohm;
@@ -6,8 +7,12 @@ use rules::Refusal;
 use rules::Slacking;
 ghost use mathlib.Core.Path.{_≡_};
 ghost use Prim.Native.Nat.{_≤_};
+ghost use Rattle.rules.specs.Promises.{SlackPromise};
 ghost use Rattle.rules.specs.Quantities.{mostOhms};
+ghost use Rattle.laws.specs.Tabled.{rowAt};
 ghost use Rattle.slack.specs.Hung.{Within, slackHung};
+ghost use Rattle.slack.specs.Ready.{Sound, hungAt};
+ghost use Rattle.slack.specs.Given.{Given, tablesOf, countsOf};
 
 mod steps;
 mod tree;
@@ -29,4 +34,27 @@ fn slack_at(h: Hung, driver: Ohm) -> Slacking
     };
     let slack = units::less(time, units::delay(driver, load));
     Slacking::Slack { slack, load }
+}
+
+// Of a placement that is not refused: its slack, and the load on the driver.
+fn timing(types: &[u32], rows: &[u32], due: &[i64], n: usize, words: &[u64]) -> Slacking
+    requires { ⌜ Sound (now rows) (now due) (now types) (now words) n ⌝ }
+    ensures { λ r. ⌜ r ≡ slackHung (rowAt (now (rows .entry)) (now (due .entry)) 0 .resistance .0) (hungAt (now (rows .entry)) (now (due .entry)) (now (types .entry)) (now (words .entry)) n 0) ⌝ }
+{
+    let mut links = [0u16; 768];
+    rows::link(rows, due, n, &mut links);
+    let h = tree::seen(rows, due, types, words, &links, n, 0);
+    let driver = rows::row_at(rows, due, 0);
+    slack_at(h, driver.resistance)
+}
+
+// Of tables that are not refused: refusal 6, or the slack.
+pub fn slack_of_accepted(types: &[u32], rows: &[u32], due: &[i64], count: usize, n: usize, words: &[u64]) -> Slacking
+    requires { ⌜ Given (now types) (now rows) (now due) count n (now words) ⌝ }
+    ensures { λ r. ⌜ SlackPromise (tablesOf (now (types .entry)) (now (rows .entry)) (now (due .entry))) (countsOf count n) (now (words .entry)) r ⌝ }
+{
+    match legal::check_marks(rows, due, count, n, words) {
+        Checking::Refused(r) => Slacking::Refused(r),
+        Checking::Accepted => timing(types, rows, due, n, words),
+    }
 }
