@@ -5,3 +5,4 @@ pub mod Ready
 pub mod Sound
 pub mod Marked
 pub mod Given
+pub mod Entry

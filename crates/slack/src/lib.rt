@@ -7,7 +7,7 @@ use rules::Refusal;
 use rules::Slacking;
 ghost use mathlib.Core.Path.{_≡_};
 ghost use Prim.Native.Nat.{_≤_};
-ghost use Rattle.rules.specs.Promises.{SlackPromise};
+ghost use Rattle.rules.specs.Promises.{CheckPromise, SlackPromise};
 ghost use Rattle.rules.specs.Quantities.{mostOhms};
 ghost use Rattle.laws.specs.Tabled.{rowAt};
 ghost use Rattle.slack.specs.Hung.{Within, slackHung};
@@ -17,6 +17,8 @@ ghost use Rattle.slack.specs.Given.{Given, tablesOf, countsOf};
 mod steps;
 mod tree;
 mod legal;
+
+const PLACEMENT_ROOM: usize = 4;
 
 // What hangs somewhere: nothing, or the load it shows and its time.
 pub enum Hung {
@@ -49,12 +51,34 @@ fn timing(types: &[u32], rows: &[u32], due: &[i64], n: usize, words: &[u64]) -> 
 }
 
 // Of tables that are not refused: refusal 6, or the slack.
-pub fn slack_of_accepted(types: &[u32], rows: &[u32], due: &[i64], count: usize, n: usize, words: &[u64]) -> Slacking
+fn slack_of_accepted(types: &[u32], rows: &[u32], due: &[i64], count: usize, n: usize, words: &[u64]) -> Slacking
     requires { ⌜ Given (now types) (now rows) (now due) count n (now words) ⌝ }
     ensures { λ r. ⌜ SlackPromise (tablesOf (now (types .entry)) (now (rows .entry)) (now (due .entry))) (countsOf count n) (now (words .entry)) r ⌝ }
 {
     match legal::check_marks(rows, due, count, n, words) {
         Checking::Refused(r) => Slacking::Refused(r),
         Checking::Accepted => timing(types, rows, due, n, words),
+    }
+}
+
+// Of tables that were checked: refusal 7 for the placement's own area comes first.
+pub fn slack_of_checked(
+    checked: Checking,
+    types: &[u32],
+    rows: &[u32],
+    due: &[i64],
+    count: usize,
+    n: usize,
+    words: &[u64],
+) -> Slacking
+    requires { ⌜ CheckPromise (tablesOf (now types) (now rows) (now due)) (countsOf count n) checked ⌝ }
+    ensures { λ r. ⌜ SlackPromise (tablesOf (now (types .entry)) (now (rows .entry)) (now (due .entry))) (countsOf count n) (now (words .entry)) r ⌝ }
+{
+    if words.len() < PLACEMENT_ROOM {
+        return Slacking::Refused(Refusal::Short);
+    }
+    match checked {
+        Checking::Refused(r) => Slacking::Refused(r),
+        Checking::Accepted => slack_of_accepted(types, rows, due, count, n, words),
     }
 }
