@@ -16,7 +16,7 @@ use Rattle.rules.specs.declared.Refusal.the-variants.{NoRow}
 use Rattle.rules.specs.declared.Slacking.{Slacking}
 use Rattle.rules.specs.declared.Slacking.the-variants.{Slack, Refused}
 use Rattle.rules.specs.declared.Kind.the-variants.{Driver, Point, Sink}
-use Rattle.rules.specs.Quantities.{_⊖_, mostOhms, mostOwn, mostLoad, typesRoom, sitesRoom, placementRoom}
+use Rattle.rules.specs.Quantities.{_⊖_, mostOhms, mostFemtofarads, mostOwn, mostLoad, typesRoom, sitesRoom, placementRoom}
 use Rattle.rules.specs.Entries.{Repeater}
 use Rattle.rules.specs.Placements.{Placement, marks}
 use Rattle.rules.specs.Tables.{typeWords}
@@ -46,6 +46,11 @@ farTime = 3_000_000_000_000_000
 abbrev pub Within : Hung → Type 0
 Within Nothing = Unit {0}
 Within (Seen l t) = (l .0 ≤ mostLoad) × (mag (t .0) ≤ farTime)
+
+pub record BufferIn (b : Buffer) : Type 0 where
+  pub input : b .input .0 ≤ mostFemtofarads
+  pub resistance : b .resistance .0 ≤ mostOhms
+  pub own : mag (b .own .0) ≤ mostOwn
 
 -- ---- the steps
 unfoldable pub wireHung : (resistance capacitance : ℕ) → Hung → Hung
@@ -144,9 +149,8 @@ unfolding markHung
 mark-type types zero h p q = absurd (omega arith)
 mark-type types (suc m) h p q = let z : suc m - 1 ≡ m = omega arith in rw (z, type-is types typesRoom m (omega arith))
 
--- one of a type in its ranges is
-pub buffer-in : {x : Repeater} {b : Buffer} → IsBuffer x b → RepeaterInRange x → (b .resistance .0 ≤ mostOhms) × (mag (b .own .0) ≤ mostOwn)
-buffer-in i r = rw (i .resistance, i .own) (r .resistance, r .own)
+pub buffer-in : {x : Repeater} {b : Buffer} → IsBuffer x b → RepeaterInRange x → BufferIn b
+buffer-in i r = record { input = rw (i .input) (r .input); resistance = rw (i .resistance) (r .resistance); own = rw (i .own) (r .own) }
 
 -- ---- at the driver: its delay is its resistance times its driven load
 unfoldable pub slackHung : (driver : ℕ) → Hung → Slacking

@@ -10,12 +10,12 @@ ghost use mathlib.Core.Bool.{true};
 ghost use Prim.Native.Nat.{_+_, _*_, _≤_};
 ghost use lib.IntN.{pos, _-ℤ_};
 ghost use lib.Signed.{mag};
-ghost use Rattle.rules.specs.Quantities.{_⊖_, mostOhms, mostOwn, mostLoad};
+ghost use Rattle.rules.specs.Quantities.{_⊖_, mostOhms, mostLoad};
 ghost use Rattle.rules.specs.Entries.{Repeater};
 ghost use Rattle.rules.specs.Placements.{marks};
 ghost use Rattle.rows.specs.Rows.{IsBuffer};
 ghost use Rattle.laws.specs.Integers.{minℤ};
-ghost use Rattle.slack.specs.Hung.{seenAs, farTime, Within, wireHung, besideHung, repeatHung, startHung, markHung, siteHung, Siting, tableTypes};
+ghost use Rattle.slack.specs.Hung.{seenAs, farTime, Within, BufferIn, wireHung, besideHung, repeatHung, startHung, markHung, siteHung, Siting, tableTypes};
 
 // Behind a wire: the whole capacitance counts at the far end.
 fn seen_behind_wire(l: Femtofarad, t: Femtosecond, r: Ohm, c: Femtofarad) -> Hung
@@ -62,7 +62,7 @@ pub fn beside(a: Hung, b: Hung) -> Hung
 
 // Behind a repeater, worked out from the load it drives: it shows its own input load upward.
 fn seen_repeated(l: Femtofarad, t: Femtosecond, b: Buffer) -> Hung
-    requires { ⌜ (b .resistance .0 ≤ mostOhms) × ((mag (b .own .0) ≤ mostOwn) × ((l .0 ≤ mostLoad) × (mag (t .0) ≤ farTime))) ⌝ }
+    requires { ⌜ BufferIn b × ((l .0 ≤ mostLoad) × (mag (t .0) ≤ farTime)) ⌝ }
     ensures { λ s. ⌜ s ≡ seenAs (b .input .0) (t .0 -ℤ b .own .0 -ℤ pos (b .resistance .0 * l .0)) ⌝ }
 {
     let own = b.own;
@@ -74,7 +74,7 @@ fn seen_repeated(l: Femtofarad, t: Femtosecond, b: Buffer) -> Hung
 }
 
 fn repeated(h: Hung, b: Buffer) -> Hung
-    requires { ⌜ Within h × ((b .resistance .0 ≤ mostOhms) × (mag (b .own .0) ≤ mostOwn)) ⌝ }
+    requires { ⌜ BufferIn b × Within h ⌝ }
     ensures { λ s. ⌜ ((x : Repeater) → IsBuffer x b → s ≡ repeatHung x h) ⌝ }
 {
     match h {

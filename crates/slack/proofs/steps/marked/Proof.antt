@@ -32,7 +32,7 @@ repeated-requires : tie.Need-repeated-requires
 repeated-requires c κs =
     let p = c .before .before .before .before .before .pre in
     let m = c .before .before .mark-of in
-    (p .inside, buffer-in (c .type-at .ensures) (p .known _ (rw (← (m .ensures .0)) (omega arith))))
+    (buffer-in (c .type-at .ensures) (p .known _ (rw (← (m .ensures .0)) (omega arith))), p .inside)
 
 -- src/steps.rt:102:1
 returns-2 : tie.Need-returns-2

@@ -19,7 +19,7 @@ enum-known-h c = search needs
 seen-repeated-requires : tie.Need-seen-repeated-requires
 seen-repeated-requires c κs =
     let p = c .before .before .before .pre in
-    (p .1 .0, (p .1 .1, within-at (c .before .h .given .1) (p .0)))
+    (p .0, within-at (c .before .h .given .1) (p .1))
 
 -- src/steps.rt:75:1
 returns : tie.Need-returns
