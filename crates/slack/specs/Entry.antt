@@ -1,13 +1,12 @@
 -- From the answer of the check of the tables to the answer of the entry: refusal 7 for the placement's own area, then what the check
 -- refused, then what was accepted. Only the check's promise is used. Assumes nothing.
-use mathlib.Core.Path.{_≡_, refl, sym, ap, _∙_}
-use mathlib.Core.Bool.{Bool, true, false, cond, _||_}
+use mathlib.Core.Path.{_≡_, refl, ap}
+use mathlib.Core.Bool.{Bool, true, false, _||_}
 use mathlib.Core.List.{List}
 use mathlib.Core.Option.{Option, none, some, Option·some-ne-none}
 use Prim.Native.Nat.{ℕ, _<_}
 use native.Mathlib.Omega.{arith}
 use lib.IntN.{ℤ}
-use lib.ListN.{length}
 use Rattle.rules.specs.declared.Checking.{Checking}
 use Rattle.rules.specs.declared.Checking.the-variants.{Accepted, Refused as NotAccepted}
 use Rattle.rules.specs.declared.Refusal.{Refusal}
@@ -15,9 +14,9 @@ use Rattle.rules.specs.declared.Refusal.the-variants.{Form, Range, Room, Parent
 use Rattle.rules.specs.declared.Slacking.the-variants.{Refused}
 use Rattle.rules.specs.Lists.{orElse, when}
 use Rattle.rules.specs.Tables.{Tables, Counts, shortTables, tableEntries}
-use Rattle.rules.specs.Refusals.{refusalOf, numberOf, placeOf}
+use Rattle.rules.specs.Refusals.{refusalOf, numberOf}
 use Rattle.rules.specs.Placements.{marks, placementRefusal}
-use Rattle.rules.specs.Answers.{Figures, checkFigures, slackFigures, refused, done, noTiming}
+use Rattle.rules.specs.Answers.{checkFigures, slackFigures, refused, done, noTiming}
 use Rattle.rules.specs.Promises.{Settled, tablesRefusal, CheckPromise, shortPlacement, slackRefusal, SlackPromise}
 use Rattle.slack.specs.Given.{Given, tablesOf, countsOf}
 

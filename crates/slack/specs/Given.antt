@@ -1,31 +1,28 @@
 -- Tables that are not refused, and a placement: what the code is given, and that what it answers is what is promised. Assumes nothing.
-use mathlib.Core.Path.{_≡_, refl, sym, ap, subst, _∙_}
+use mathlib.Core.Path.{_≡_, refl, sym, ap, _∙_}
 use mathlib.Core.Bool.{Bool, true, false, _||_, true≢false}
 use mathlib.Core.List.{List, [], _∷_}
 use mathlib.Core.Option.{Option, none, some}
-use Prim.Native.Nat.{ℕ, _+_, _*_, _≤_, _<_}
+use Prim.Native.Nat.{ℕ, _*_, _≤_}
 use native.Mathlib.Omega.{arith}
 use lib.Dec.{ltb}
 use lib.IntN.{ℤ}
 use lib.ListN.{length, getD}
 use borrow.Author.Tests.{ltb-false}
-use Rattle.rules.specs.declared.Checking.{Checking}
 use Rattle.rules.specs.declared.Checking.the-variants.{Accepted as Passes, Refused as Stops}
 use Rattle.rules.specs.declared.Refusal.{Refusal}
-use Rattle.rules.specs.declared.Refusal.the-variants.{Short}
 use Rattle.rules.specs.declared.Row.{Row}
 use Rattle.rules.specs.declared.Slacking.{Slacking}
 use Rattle.rules.specs.declared.Slacking.the-variants.{Refused}
-use Rattle.rules.specs.Lists.{orElse, when}
-use Rattle.rules.specs.Quantities.{_⊖_, typesRoom, rowsRoom, placementRoom}
+use Rattle.rules.specs.Quantities.{_⊖_, typesRoom, rowsRoom}
 use Rattle.rules.specs.Entries.{Entry, typesOf, rowsOf}
 use Rattle.rules.specs.Tables.{Tables, Counts, typeWords, rowWords, shortTables, tableEntries}
 use Rattle.rules.specs.Refusals.{refusalOf}
 use Rattle.rules.specs.Placements.{marks, placementRefusal}
 use Rattle.rules.specs.Net.{Tree, atRow, driverOhms}
 use Rattle.rules.specs.Slack.{load}
-use Rattle.rules.specs.Answers.{slackFigures, refused, done, noTiming, Timing}
-use Rattle.rules.specs.Promises.{Settled, tablesRefusal, shortPlacement, slackRefusal, SlackPromise, TimingOf}
+use Rattle.rules.specs.Answers.{slackFigures, Timing}
+use Rattle.rules.specs.Promises.{tablesRefusal, shortPlacement, slackRefusal, SlackPromise}
 use Rattle.laws.specs.Trees.{time, slack-is}
 use Rattle.laws.specs.Accepted.{Accepted, accepted}
 use Rattle.laws.specs.Rows.{rows-two}
@@ -34,7 +31,6 @@ use Rattle.laws.specs.Legality.{marks-legality}
 use Rattle.laws.specs.Tabled.{rowAt, rowsFrom, rows-length, repeatersFrom, repeaters-length, Tabled, tabled}
 use Rattle.laws.specs.Walk.{noRow, seenAt, atRow-seen}
 use Rattle.rows.specs.Links.{Standing, row-is}
-use Rattle.slack.specs.declared.Hung.{Hung}
 use Rattle.slack.specs.Hung.{seenAs, hungOf, slackHung}
 use Rattle.slack.specs.Ready.{Sound, hungAt}
 use Rattle.slack.specs.Sound.{hung-same, sound}

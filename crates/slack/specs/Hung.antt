@@ -2,12 +2,12 @@
 -- the tree that hangs there. Assumes nothing.
 use mathlib.Core.Path.{_≡_, refl, sym, ap, subst, _∙_}
 use mathlib.Core.Bool.{Bool, true, false}
-use mathlib.Core.List.{List, [], _∷_}
+use mathlib.Core.List.{List}
 use mathlib.Core.Option.{Option, none, some}
 use Prim.Native.Nat.{ℕ, zero, suc, _+_, _*_, _-_, _≤_, _<_}
 use native.Mathlib.Omega.{arith}
 use lib.IntN.{ℤ, pos, _-ℤ_}
-use lib.ListN.{length, getD}
+use lib.ListN.{length}
 use lib.Signed.{mag}
 use Rattle.rules.specs.declared.Femtofarad.{Femtofarad}
 use Rattle.rules.specs.declared.Femtosecond.{Femtosecond}
@@ -22,7 +22,7 @@ use Rattle.rules.specs.Placements.{Placement, marks}
 use Rattle.rules.specs.Tables.{typeWords}
 use Rattle.laws.specs.Tabled.{repeaterAt, repeatersFrom, repeaters-at}
 use Rattle.laws.specs.Ranges.{RepeaterInRange}
-use Rattle.rules.specs.Net.{Wire, Tree, sink, site, wire, both, sited, seen, wired, beside}
+use Rattle.rules.specs.Net.{Wire, Tree, sink, site, sited, seen, wired, beside}
 use Rattle.rules.specs.Slack.{typeOf, seenLoad, repeaterDelay, wireDelay, load}
 use Rattle.laws.specs.Integers.{minℤ, ⊖-zero, ⊖-⊖}
 use Rattle.laws.specs.Trees.{time}

@@ -1,10 +1,10 @@
 -- Refusal 6 as the code finds it: the rows in their order, and so the sites in theirs, then the marks past the last site. Assumes
 -- nothing.
 use mathlib.Core.Path.{_≡_, refl, sym, ap, _∙_}
-use mathlib.Core.Bool.{Bool, true, false, cond, false≢true}
-use mathlib.Core.List.{List, [], _∷_}
+use mathlib.Core.Bool.{Bool, true, false, false≢true}
+use mathlib.Core.List.{List}
 use mathlib.Core.Option.{Option, none, some}
-use Prim.Native.Nat.{ℕ, zero, suc, _+_, _-_, _≤_, _<_}
+use Prim.Native.Nat.{ℕ, suc, _+_, _-_, _≤_, _<_}
 use native.Mathlib.Omega.{arith}
 use lib.Dec.{ltb}
 use lib.IntN.{ℤ}
@@ -19,9 +19,9 @@ use Rattle.rules.specs.Lists.{orElse, when}
 use Rattle.rules.specs.Quantities.{typesRoom, sitesRoom, placementRoom}
 use Rattle.rules.specs.Entries.{Entry, siteCount, typesOf, rowsOf, sitesOf}
 use Rattle.rules.specs.Refusals.{lineOfRow}
-use Rattle.rules.specs.Placements.{Placement, marks, rowOfSite, markRefusal, marksFrom, placementRefusal}
+use Rattle.rules.specs.Placements.{Placement, marks, markRefusal, marksFrom, placementRefusal}
 use Rattle.laws.specs.Tabled.{rowAt, rowsFrom, rows-length}
-use Rattle.laws.specs.Walk.{noRow, sitesBefore, sitesBefore-zero, sitesBefore-step}
+use Rattle.laws.specs.Walk.{noRow, sitesBefore, sitesBefore-zero}
 use Rattle.rows.specs.Links.{Standing, row-is, count-next}
 use Rattle.slack.specs.Sites.{before-few, before-all, site-number, site-row}
 

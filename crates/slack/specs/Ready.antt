@@ -1,32 +1,31 @@
 -- What the walk over a table's tree stands on, and what each of its calls needs and gives: the load and the time of the tree that hangs
 -- there. Assumes nothing.
-use mathlib.Core.Path.{_≡_, refl, sym, ap, ap₂, subst, _∙_}
-use mathlib.Core.Bool.{Bool, true, false}
-use mathlib.Core.List.{List, [], _∷_}
-use Prim.Native.Nat.{ℕ, zero, suc, _+_, _*_, _≤_, _<_}
+use mathlib.Core.Path.{_≡_, refl, sym, ap, ap₂, _∙_}
+use mathlib.Core.Bool.{true}
+use mathlib.Core.List.{List}
+use Prim.Native.Nat.{ℕ, _+_, _*_, _≤_, _<_}
 use native.Mathlib.Decide.{decLt}
 use native.Mathlib.Omega.{arith}
 use lib.IntN.{ℤ}
-use lib.ListN.{length, getD, take}
-use lib.Signed.{mag}
+use lib.ListN.{length, getD}
 use Rattle.rules.specs.declared.Kind.{Kind}
 use Rattle.rules.specs.declared.Kind.the-variants.{Driver, Point, Sink}
 use Rattle.rules.specs.declared.Row.{Row}
-use Rattle.rules.specs.Quantities.{mostOhms, mostLoad, typesRoom, sitesRoom, placementRoom}
-use Rattle.rules.specs.Entries.{siteCount, sitesOf}
+use Rattle.rules.specs.Quantities.{mostOhms, typesRoom, sitesRoom, placementRoom}
+use Rattle.rules.specs.Entries.{sitesOf}
 use Rattle.rules.specs.Placements.{marks}
 use Rattle.rules.specs.Tables.{typeWords}
-use Rattle.rules.specs.Net.{wireOf, seen, wired, beside}
+use Rattle.rules.specs.Net.{wireOf, wired}
 use Rattle.laws.specs.Integers.{mag-between}
 use Rattle.laws.specs.Ranges.{RepeaterInRange}
 use Rattle.laws.specs.Taken.{RowIn, KindIn}
 use Rattle.laws.specs.Tabled.{rowAt, rowsFrom, rows-length, repeaterAt}
-use Rattle.laws.specs.Walk.{noRow, sitesBefore, sitesBefore-step, under, under-end, under-taken, seenAt, child, Child, child-is}
+use Rattle.laws.specs.Walk.{noRow, sitesBefore, under, under-end, under-taken, seenAt, Child, child-is}
 use Rattle.rows.specs.Links.{Links, Earlier, Standing, nextAt, sitesAt, row-is}
 use Rattle.slack.specs.declared.Hung.{Hung}
 use Rattle.slack.specs.declared.Hung.the-variants.{Nothing}
 use Rattle.slack.specs.Sites.{site-number}
-use Rattle.slack.specs.Hung.{seenAs, farTime, Within, wireHung, besideHung, siteHung, startHung, hungOf, hung-wired, hung-beside, hung-seen, tableTypes, Siting}
+use Rattle.slack.specs.Hung.{Within, wireHung, besideHung, siteHung, startHung, hungOf, hung-wired, hung-beside, hung-seen, tableTypes, Siting}
 
 -- what hangs under the parent of row c among the rows from c on, and what is at row i
 unfoldable pub hungBelow : (rows : List ℕ) (due : List ℤ) (types words : List ℕ) (n c : ℕ) → Hung

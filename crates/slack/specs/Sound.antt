@@ -1,29 +1,26 @@
 -- Of an accepted net and a placement that is not refused: the walk over its tree has what it stands on. Assumes nothing.
-use mathlib.Core.Path.{_≡_, refl, sym, ap, ap₂, subst, _∙_}
+use mathlib.Core.Path.{_≡_, refl, sym, ap, ap₂, _∙_}
 use mathlib.Core.List.{List}
 use mathlib.Core.Option.{Option, none, some}
 use Prim.Native.Nat.{ℕ, zero, suc, _+_, _*_, _≤_, _<_}
 use native.Mathlib.Omega.{arith}
 use lib.IntN.{ℤ}
-use lib.ListN.{length, getD, drop}
-use lib.Signed.{mag}
+use lib.ListN.{length, getD}
 use Rattle.rules.specs.declared.Row.{Row}
 use Rattle.rules.specs.Quantities.{typesRoom, placementRoom, _⊖_}
-use Rattle.rules.specs.Entries.{Repeater, siteCount}
+use Rattle.rules.specs.Entries.{Repeater}
 use Rattle.rules.specs.Placements.{Placement, marks}
 use Rattle.rules.specs.Tables.{typeWords}
-use Rattle.rules.specs.Net.{Tree, sink, site, wire, both, wireOf, seen, wired, hangs}
+use Rattle.rules.specs.Net.{Tree, sink, site, wire, both, wireOf, wired}
 use Rattle.rules.specs.Slack.{typeOf, seenLoad, repeaterDelay, wireDelay, load}
 use Rattle.laws.specs.Integers.{mag-between, minℤ}
 use Rattle.laws.specs.Trees.{time}
-use Rattle.laws.specs.Ranges.{RepeaterInRange}
 use Rattle.laws.specs.Accepted.{Accepted}
-use Rattle.laws.specs.Rows.{type-in, row-in, later-at, rows-two}
+use Rattle.laws.specs.Rows.{type-in, row-in, later-at}
 use Rattle.laws.specs.Within.{Within as WithinTree, within-under, within-row, within-at, load-within, time-from, time-to}
-use Rattle.laws.specs.Tabled.{rowsFrom, rows-length, repeaterAt, repeatersFrom, repeaters-length}
+use Rattle.laws.specs.Tabled.{rowsFrom, rows-length, repeatersFrom, repeaters-length}
 use Rattle.laws.specs.Walk.{noRow, sitesBefore, sitesBefore-step, under, seenAt, atRow-seen}
 use Rattle.rows.specs.Links.{Standing}
-use Rattle.slack.specs.declared.Hung.{Hung}
 use Rattle.slack.specs.Hung.{Within, seenAs, hungOf, tableTypes, type-is}
 use Rattle.slack.specs.Ready.{Sound, hungAt}
 

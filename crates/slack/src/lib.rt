@@ -14,9 +14,9 @@ ghost use Rattle.slack.specs.Hung.{Within, slackHung};
 ghost use Rattle.slack.specs.Ready.{Sound, hungAt};
 ghost use Rattle.slack.specs.Given.{Given, tablesOf, countsOf};
 
+mod legal;
 mod steps;
 mod tree;
-mod legal;
 
 const PLACEMENT_ROOM: usize = 4;
 
@@ -51,7 +51,14 @@ fn timing(types: &[u32], rows: &[u32], due: &[i64], n: usize, words: &[u64]) -> 
 }
 
 // Of tables that are not refused: refusal 6, or the slack.
-fn slack_of_accepted(types: &[u32], rows: &[u32], due: &[i64], count: usize, n: usize, words: &[u64]) -> Slacking
+fn slack_of_accepted(
+    types: &[u32],
+    rows: &[u32],
+    due: &[i64],
+    count: usize,
+    n: usize,
+    words: &[u64],
+) -> Slacking
     requires { ⌜ Given (now types) (now rows) (now due) count n (now words) ⌝ }
     ensures { λ r. ⌜ SlackPromise (tablesOf (now (types .entry)) (now (rows .entry)) (now (due .entry))) (countsOf count n) (now (words .entry)) r ⌝ }
 {

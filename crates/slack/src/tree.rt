@@ -23,7 +23,15 @@ fn link_at(links: &[u16], i: usize) -> usize
 
 // What hangs under the parent of row c among the rows from c on: row c behind its wire, beside the next row under the same parent and
 // those after it. The number past the last row ends them.
-fn below(rows: &[u32], due: &[i64], types: &[u32], words: &[u64], links: &[u16], n: usize, c: usize) -> Hung
+fn below(
+    rows: &[u32],
+    due: &[i64],
+    types: &[u32],
+    words: &[u64],
+    links: &[u16],
+    n: usize,
+    c: usize,
+) -> Hung
     requires { ⌜ Ready (now rows) (now due) (now types) (now words) (now links) n ⌝ }
     requires { ⌜ (1 ≤ c) × (c ≤ n) ⌝ }
     ensures { λ r. ⌜ r ≡ hungBelow (now (rows .entry)) (now (due .entry)) (now (types .entry)) (now (words .entry)) n c ⌝ }
@@ -40,7 +48,15 @@ fn below(rows: &[u32], due: &[i64], types: &[u32], words: &[u64], links: &[u16],
 }
 
 // What is at a row: its pin, or what hangs under it, with the repeater of its site; its wire does not count.
-pub fn seen(rows: &[u32], due: &[i64], types: &[u32], words: &[u64], links: &[u16], n: usize, row: usize) -> Hung
+pub fn seen(
+    rows: &[u32],
+    due: &[i64],
+    types: &[u32],
+    words: &[u64],
+    links: &[u16],
+    n: usize,
+    row: usize,
+) -> Hung
     requires { ⌜ Ready (now rows) (now due) (now types) (now words) (now links) n ⌝ }
     requires { ⌜ row < n ⌝ }
     ensures { λ r. ⌜ r ≡ hungAt (now (rows .entry)) (now (due .entry)) (now (types .entry)) (now (words .entry)) n row ⌝ }

@@ -1,3 +1,4 @@
+-- `slack::slack_at` meets its contract. Assumes nothing.
 use mathlib.Core.Path.{_∙_}
 use native.Mathlib.Omega.{arith}
 use Rattle.units.specs.Times.{less-⊖}
@@ -5,37 +6,27 @@ use Rattle.slack.specs.Hung.{slackHung, within-at, slack-seen}
 use borrow.Author.Needs.{needs}
 use Rattle.slack.proofs.slack_at.Statement.{statement}
 use Rattle.slack.proofs.slack_at.Tie as tie
-use Rattle.slack.proofs.slack_at.Reads as reads
-use Rattle.slack.proofs.slack_at.Lts as lts
-use Rattle.units.proofs.delay.Reads as delay-reads
-use Rattle.units.proofs.less.Reads as less-reads
 
--- src/lib.rt:25:20
 enum-known-h : tie.Need-enum-known-h
 enum-known-h c = search needs
 
--- src/lib.rt:26:34
 enum-told : tie.Need-enum-told
 enum-told c = search needs
 
--- src/lib.rt:26:9
 returns : tie.Need-returns
 unfolding slackHung
 returns c = rw (c .enum-told .given .1)
 
--- src/lib.rt:28:35
 delay-requires : tie.Need-delay-requires
 delay-requires c κs =
     let p = c .before .before .before .pre in
     (p .0, within-at (c .before .h .given .1) (p .1) .0)
 
--- src/lib.rt:28:9
 less-requires : tie.Need-less-requires
 less-requires c κs =
     let w = within-at (c .before .before .h .given .1) (c .before .before .before .before .pre .1) in
     omega (arith, w .1, c .delay .ensures .1)
 
--- src/lib.rt:21:1
 returns-2 : tie.Need-returns-2
 returns-2 c =
     let a = c .before .before .before .before .before .args in

@@ -1,41 +1,29 @@
+-- `slack::timing` meets its contract. Assumes nothing.
 use mathlib.Core.Path.{ap₂, _∙_}
 use Rattle.slack.specs.Hung.{slackHung}
 use Rattle.slack.specs.Ready.{driver-needs}
 use borrow.Author.Needs.{needs}
 use Rattle.slack.proofs.timing.Statement.{statement}
 use Rattle.slack.proofs.timing.Tie as tie
-use Rattle.slack.proofs.timing.Reads as reads
-use Rattle.slack.proofs.timing.Lts as lts
-use Rattle.rows.proofs.link.Reads as link-reads
-use Rattle.rows.proofs.row_at.Reads as row-at-reads
-use Rattle.slack.proofs.slack_at.Reads as slack-at-reads
-use Rattle.slack.proofs.tree.seen.Reads as seen-reads
 
--- src/lib.rt:45:30
 slice-aggregate-link : tie.Need-slice-aggregate-link
 slice-aggregate-link c = search needs
 
--- src/lib.rt:45:5
 link-requires : tie.Need-link-requires
 link-requires c κs = search needs
 
--- src/lib.rt:46:49
 slice-aggregate-seen : tie.Need-slice-aggregate-seen
 slice-aggregate-seen c = search needs
 
--- src/lib.rt:46:9
 seen-requires : tie.Need-seen-requires
 seen-requires c κs = search needs
 
--- src/lib.rt:47:9
 row-at-requires : tie.Need-row-at-requires
 row-at-requires c κs = search needs
 
--- src/lib.rt:48:5
 slack-at-requires : tie.Need-slack-at-requires
 slack-at-requires c κs = driver-needs (c .before .before .before .before .before .before .before .before .before .pre) (c .row-at .ensures) (c .before .seen .ensures)
 
--- src/lib.rt:40:1
 returns : tie.Need-returns
 returns c = c .slack-at .ensures ∙ ap₂ (λ x h. slackHung (x .resistance .0) h) (c .before .row-at .ensures) (c .before .before .seen .ensures)
 

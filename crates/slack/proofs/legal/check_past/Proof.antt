@@ -1,3 +1,5 @@
+-- `slack::legal::check_past` meets its contract. The loop's invariant: the marks before j have passed. The measure is what is left of them.
+-- Assumes nothing.
 use borrow.Author.Needs.{needs}
 use Prim.Native.Nat.{_-_}
 use native.Mathlib.Omega.{arith}
@@ -5,9 +7,6 @@ use Rattle.rules.specs.Quantities.{sitesRoom}
 use Rattle.slack.specs.Marked.{PastFrom, past-start, past-stop, past-pass, past-end}
 use Rattle.slack.proofs.legal.check_past.Statement.{statement}
 use Rattle.slack.proofs.legal.check_past.Tie as tie
-use Rattle.slack.proofs.legal.check_past.Reads as reads
-use Rattle.slack.proofs.legal.check_past.Lts as lts
-use Rattle.marks.proofs.mark_of.Reads as mark-of-reads
 
 abbrev Inv-loop : tie.InvT-loop
 Inv-loop words from j₀ j = PastFrom words from j
@@ -15,31 +14,24 @@ Inv-loop words from j₀ j = PastFrom words from j
 abbrev μ-loop : tie.MeasureT-loop
 μ-loop words from j₀ j = sitesRoom - j
 
--- src/legal.rt:35:5
 loop-holds : tie.Need-loop-holds Inv-loop μ-loop
 loop-holds c = past-start (c .before .pre .0)
 
--- src/legal.rt:36:16
 mark-of-requires : tie.Need-mark-of-requires Inv-loop μ-loop
 mark-of-requires c κs = search needs
 
--- src/legal.rt:37:13
 returns : tie.Need-returns Inv-loop μ-loop
 returns c = past-stop (c .before .before .before .loop .inv) (c .before .mark-of .ensures .0) (omega arith) (omega arith)
 
--- src/legal.rt:39:9
 add-j : tie.Need-add-j Inv-loop μ-loop
 add-j c = search needs
 
--- src/legal.rt:35:5
 loop-less : tie.Need-loop-less Inv-loop μ-loop
 loop-less c = omega arith
 
--- src/legal.rt:35:5
 loop-again : tie.Need-loop-again Inv-loop μ-loop
 loop-again c = past-pass (c .before .before .before .loop .inv) (c .before .mark-of .ensures .0) (omega arith) (omega arith)
 
--- src/legal.rt:30:1
 returns-2 : tie.Need-returns-2 Inv-loop μ-loop
 returns-2 c = past-end (c .before .loop .inv) (omega arith)
 

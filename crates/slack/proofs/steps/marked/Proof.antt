@@ -1,40 +1,30 @@
+-- `slack::steps::marked` meets its contract. Assumes nothing.
 use mathlib.Core.Path.{sym, _∙_}
 use native.Mathlib.Omega.{arith}
 use Rattle.slack.specs.Hung.{markHung, mark-type, buffer-in}
 use borrow.Author.Needs.{needs}
 use Rattle.slack.proofs.steps.marked.Statement.{statement}
 use Rattle.slack.proofs.steps.marked.Tie as tie
-use Rattle.slack.proofs.steps.marked.Reads as reads
-use Rattle.slack.proofs.steps.marked.Lts as lts
-use Rattle.marks.proofs.mark_of.Reads as mark-of-reads
-use Rattle.rows.proofs.type_at.Reads as type-at-reads
-use Rattle.slack.proofs.steps.repeated.Reads as repeated-reads
 
--- src/steps.rt:106:16
 mark-of-requires : tie.Need-mark-of-requires
 mark-of-requires c κs = search needs
 
--- src/steps.rt:108:9
 returns : tie.Need-returns
 unfolding markHung
 returns c = rw (← (c .before .mark-of .ensures .0), c .if1 .taken)
 
--- src/steps.rt:110:34
 sub-type-at : tie.Need-sub-type-at
 sub-type-at c = search needs
 
--- src/steps.rt:110:9
 type-at-requires : tie.Need-type-at-requires
 type-at-requires c κs = search needs
 
--- src/steps.rt:111:5
 repeated-requires : tie.Need-repeated-requires
 repeated-requires c κs =
     let p = c .before .before .before .before .before .pre in
     let m = c .before .before .mark-of in
     (buffer-in (c .type-at .ensures) (p .known _ (rw (← (m .ensures .0)) (omega arith))), p .inside)
 
--- src/steps.rt:102:1
 returns-2 : tie.Need-returns-2
 returns-2 c =
     let a = c .before .before .before .before .before .before .args in

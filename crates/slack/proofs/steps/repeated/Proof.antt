@@ -1,32 +1,25 @@
+-- `slack::steps::repeated` meets its contract. Assumes nothing.
 use mathlib.Core.Path.{sym, _∙_}
 use Rattle.slack.specs.Hung.{repeatHung, within-at, repeat-seen}
 use borrow.Author.Needs.{needs}
 use Rattle.slack.proofs.steps.repeated.Statement.{statement}
 use Rattle.slack.proofs.steps.repeated.Tie as tie
-use Rattle.slack.proofs.steps.repeated.Reads as reads
-use Rattle.slack.proofs.steps.repeated.Lts as lts
-use Rattle.slack.proofs.steps.seen_repeated.Reads as seen-repeated-reads
 
--- src/steps.rt:80:26
 enum-told : tie.Need-enum-told
 enum-told c = search needs
 
--- src/steps.rt:81:20
 enum-known-h : tie.Need-enum-known-h
 enum-known-h c = search needs
 
--- src/steps.rt:81:29
 seen-repeated-requires : tie.Need-seen-repeated-requires
 seen-repeated-requires c κs =
     let p = c .before .before .before .pre in
     (p .0, within-at (c .before .h .given .1) (p .1))
 
--- src/steps.rt:75:1
 returns : tie.Need-returns
 unfolding repeatHung
 returns c = λ x i. rw (c .enum-told .given .1)
 
--- src/steps.rt:75:1
 returns-2 : tie.Need-returns-2
 returns-2 c = λ x i. c .seen-repeated .ensures ∙ sym (repeat-seen i (c .before .before .h .given .1))
 

@@ -1,3 +1,4 @@
+-- `slack::steps::seen_behind_wire` meets its contract. Assumes nothing.
 use mathlib.Core.Path.{ap, _∙_}
 use Prim.Native.Nat.{_*_}
 use lib.IntN.{pos}
@@ -6,27 +7,18 @@ use Rattle.slack.specs.Hung.{seen-is}
 use borrow.Author.Needs.{needs}
 use Rattle.slack.proofs.steps.seen_behind_wire.Statement.{statement}
 use Rattle.slack.proofs.steps.seen_behind_wire.Tie as tie
-use Rattle.slack.proofs.steps.seen_behind_wire.Reads as reads
-use Rattle.slack.proofs.steps.seen_behind_wire.Lts as lts
-use Rattle.units.proofs.delay.Reads as delay-reads
-use Rattle.units.proofs.less.Reads as less-reads
-use Rattle.units.proofs.together.Reads as together-reads
 
--- src/steps.rt:24:9
 together-requires : tie.Need-together-requires
 together-requires c κs = search needs
 
--- src/steps.rt:25:31
 delay-requires : tie.Need-delay-requires
 delay-requires c κs = search needs
 
--- src/steps.rt:25:9
 less-requires : tie.Need-less-requires
 less-requires c κs = search needs
 
--- src/steps.rt:20:1
 returns : tie.Need-returns
-returns c = 
+returns c =
     let a = c .before .before .before .args in
     let q = c .before .before .together .ensures in
     let d = c .before .delay in

@@ -1,20 +1,15 @@
+-- `slack::steps::sited` meets its contract. Assumes nothing.
 use Rattle.slack.specs.Hung.{siteHung}
 use Rattle.slack.proofs.steps.sited.Statement.{statement}
 use Rattle.slack.proofs.steps.sited.Tie as tie
-use Rattle.slack.proofs.steps.sited.Reads as reads
-use Rattle.slack.proofs.steps.sited.Lts as lts
-use Rattle.slack.proofs.steps.marked.Reads as marked-reads
 
--- src/steps.rt:120:9
 marked-requires : tie.Need-marked-requires
 marked-requires c κs = c .before .before .before .pre (c .if1 .taken)
 
--- src/steps.rt:120:9
 returns : tie.Need-returns
 unfolding siteHung
 returns c = rw (c .before .if1 .taken) (c .marked .ensures)
 
--- src/steps.rt:115:1
 returns-2 : tie.Need-returns-2
 unfolding siteHung
 returns-2 c = rw (c .if1 .left)

@@ -1,30 +1,23 @@
+-- `slack::steps::started` meets its contract. Assumes nothing.
 use borrow.Author.Needs.{needs}
 use Rattle.slack.proofs.steps.started.Statement.{statement}
 use Rattle.slack.proofs.steps.started.Tie as tie
-use Rattle.slack.proofs.steps.started.Reads as reads
-use Rattle.slack.proofs.steps.started.Lts as lts
 
--- src/steps.rt:90:25
 enum-told : tie.Need-enum-told
 enum-told c = search needs
 
--- src/steps.rt:91:24
 enum-told-2 : tie.Need-enum-told-2
 enum-told-2 c = search needs
 
--- src/steps.rt:92:20
 enum-known-kind : tie.Need-enum-known-kind
 enum-known-kind c = search needs
 
--- src/steps.rt:86:1
 returns : tie.Need-returns
 returns c = search needs
 
--- src/steps.rt:86:1
 returns-2 : tie.Need-returns-2
 returns-2 c = search needs
 
--- src/steps.rt:86:1
 returns-3 : tie.Need-returns-3
 returns-3 c = rw (c .before .before .before .kind .given .1)
 

@@ -1,3 +1,5 @@
+-- `slack::tree::below` and `slack::tree::seen` meet their contracts. They call each other, and 256 less the row's number falls, or stays and
+-- `seen` is called by `below`. Assumes nothing.
 use Rattle.laws.specs.Tabled.{rows-length}
 use Prim.Native.Nat.{ℕ, _+_, _*_, _-_, _<_}
 use native.Mathlib.Omega.{arith}
@@ -38,183 +40,8 @@ seen-at t = and 5 seen-kinds.ps (is 5 seen-kinds.ps μ-seen t) seen.Pre
 abbrev seen-below : ℕ → In 5 seen-kinds.ps
 seen-below t = and 5 seen-kinds.ps (falls 5 seen-kinds.ps _<_ μ-seen t) seen.Pre
 
--- src/tree.rt:32:9
-below-returns : (t : ℕ) → below-lts.Need-returns (
-  row-at-reads.Asked,
-  row-at-reads.Learnt,
-  seen-below t,
-  seen.Post,
-  behind-wire-reads.Asked,
-  behind-wire-reads.Learnt,
-  link-at-reads.Asked,
-  link-at-reads.Learnt,
-  below-below t,
-  below.Post,
-  beside-reads.Asked,
-  beside-reads.Learnt,
-) (below-at t) below.Post
-below-returns t c =
-    let s = c .before .before .before .before .before in
-    below-end (s .pre .1 .0) (s .args .c) (c .if1 .taken)
-
--- src/tree.rt:34:9
-below-row-at-requires : (t : ℕ) → below-lts.Need-row-at-requires (
-  row-at-reads.Asked,
-  row-at-reads.Learnt,
-  seen-below t,
-  seen.Post,
-  behind-wire-reads.Asked,
-  behind-wire-reads.Learnt,
-  link-at-reads.Asked,
-  link-at-reads.Learnt,
-  below-below t,
-  below.Post,
-  beside-reads.Asked,
-  beside-reads.Learnt,
-) (below-at t) below.Post
-below-row-at-requires t c κs = let o = c .before .before .before .before .before .pre .1 .0 .sound .standing in omega (arith, o .few, o .rows-long, o .due-long)
-
--- src/tree.rt:35:9
-below-seen-requires : (t : ℕ) → below-lts.Need-seen-requires (
-  row-at-reads.Asked,
-  row-at-reads.Learnt,
-  seen-below t,
-  seen.Post,
-  behind-wire-reads.Asked,
-  behind-wire-reads.Learnt,
-  link-at-reads.Asked,
-  link-at-reads.Learnt,
-  below-below t,
-  below.Post,
-  beside-reads.Asked,
-  beside-reads.Learnt,
-) (below-at t) below.Post
-below-seen-requires t c κs =
-    let s = c .before .before .before .before .before .before in
-    let o = s .pre .1 .0 .sound .standing in
-    (omega (arith, o .few), (s .pre .1 .0, omega (arith, c .before .if1 .left)))
-
--- src/tree.rt:36:9
-below-behind-wire-requires : (t : ℕ) → below-lts.Need-behind-wire-requires (
-  row-at-reads.Asked,
-  row-at-reads.Learnt,
-  seen-below t,
-  seen.Post,
-  behind-wire-reads.Asked,
-  behind-wire-reads.Learnt,
-  link-at-reads.Asked,
-  link-at-reads.Learnt,
-  below-below t,
-  below.Post,
-  beside-reads.Asked,
-  beside-reads.Learnt,
-) (below-at t) below.Post
-below-behind-wire-requires t c κs =
-    let s = c .before .before .before .before .before .before .before in
-    let more : s .args .c < s .args .n = omega (arith, c .before .before .if1 .left) in
-    wire-needs (s .pre .1 .0) (s .args .c) (s .pre .1 .1 .0) more (c .before .row-at .ensures) (c .seen .ensures)
-
--- src/tree.rt:37:31
-below-add-link-at : (t : ℕ) → below-lts.Need-add-link-at (
-  row-at-reads.Asked,
-  row-at-reads.Learnt,
-  seen-below t,
-  seen.Post,
-  behind-wire-reads.Asked,
-  behind-wire-reads.Learnt,
-  link-at-reads.Asked,
-  link-at-reads.Learnt,
-  below-below t,
-  below.Post,
-  beside-reads.Asked,
-  beside-reads.Learnt,
-) (below-at t) below.Post
-below-add-link-at t c = omega (arith, c .before .before .before .before .before .before .before .before .pre .1 .0 .sound .standing .few)
-
--- src/tree.rt:37:9
-below-link-at-requires : (t : ℕ) → below-lts.Need-link-at-requires (
-  row-at-reads.Asked,
-  row-at-reads.Learnt,
-  seen-below t,
-  seen.Post,
-  behind-wire-reads.Asked,
-  behind-wire-reads.Learnt,
-  link-at-reads.Asked,
-  link-at-reads.Learnt,
-  below-below t,
-  below.Post,
-  beside-reads.Asked,
-  beside-reads.Learnt,
-) (below-at t) below.Post
-below-link-at-requires t c κs =
-    let r = c .before .before .before .before .before .before .before .before .pre .1 .0 in
-    omega (arith, r .sound .standing .few, r .linked .long, c .before .before .before .if1 .left)
-
--- src/tree.rt:38:9
-below-below-requires : (t : ℕ) → below-lts.Need-below-requires (
-  row-at-reads.Asked,
-  row-at-reads.Learnt,
-  seen-below t,
-  seen.Post,
-  behind-wire-reads.Asked,
-  behind-wire-reads.Learnt,
-  link-at-reads.Asked,
-  link-at-reads.Learnt,
-  below-below t,
-  below.Post,
-  beside-reads.Asked,
-  beside-reads.Learnt,
-) (below-at t) below.Post
-below-below-requires t c κs =
-    let s = c .before .before .before .before .before .before .before .before .before in
-    let r = s .pre .1 .0 in
-    let more : s .args .c < s .args .n = omega (arith, c .before .before .before .before .if1 .left) in
-    let k = next-child r (s .args .c) (s .pre .1 .1 .0) more (c .link-at .ensures) in
-    let l = rows-length (s .args .rows .now) (s .args .due .now) 0 (s .args .n) in
-    (omega (arith, k .from, r .sound .standing .few), (r, (omega (arith, k .from), omega (arith, k .upto))))
-
--- src/tree.rt:39:5
-below-beside-requires : (t : ℕ) → below-lts.Need-beside-requires (
-  row-at-reads.Asked,
-  row-at-reads.Learnt,
-  seen-below t,
-  seen.Post,
-  behind-wire-reads.Asked,
-  behind-wire-reads.Learnt,
-  link-at-reads.Asked,
-  link-at-reads.Learnt,
-  below-below t,
-  below.Post,
-  beside-reads.Asked,
-  beside-reads.Learnt,
-) (below-at t) below.Post
-below-beside-requires t c κs =
-    let s = c .before .before .before .before .before .before .before .before .before .before in
-    let more : s .args .c < s .args .n = omega (arith, c .before .before .before .before .before .if1 .left) in
-    beside-needs (s .pre .1 .0) (s .args .c) (s .pre .1 .1 .0) more (c .before .before .before .before .row-at .ensures) (c .before .before .before .seen .ensures) (c .before .before .behind-wire .ensures) (c .before .link-at .ensures) (c .below .ensures)
-
--- src/tree.rt:26:1
-below-returns-2 : (t : ℕ) → below-lts.Need-returns-2 (
-  row-at-reads.Asked,
-  row-at-reads.Learnt,
-  seen-below t,
-  seen.Post,
-  behind-wire-reads.Asked,
-  behind-wire-reads.Learnt,
-  link-at-reads.Asked,
-  link-at-reads.Learnt,
-  below-below t,
-  below.Post,
-  beside-reads.Asked,
-  beside-reads.Learnt,
-) (below-at t) below.Post
-below-returns-2 t c =
-    let s = c .before .before .before .before .before .before .before .before .before .before .before in
-    let more : s .args .c < s .args .n = omega (arith, c .before .before .before .before .before .before .if1 .left) in
-    below-step (s .pre .1 .0) (s .args .c) (s .pre .1 .1 .0) more (c .before .before .before .before .before .row-at .ensures) (c .before .before .before .before .seen .ensures) (c .before .before .before .behind-wire .ensures) (c .before .before .link-at .ensures) (c .before .below .ensures) (c .beside .ensures)
-
--- src/tree.rt:48:9
-seen-link-at-requires : (t : ℕ) → seen-lts.Need-link-at-requires (
+abbrev seen-claims : ℕ → seen-lts.Claims
+seen-claims t = (
   link-at-reads.Asked,
   link-at-reads.Learnt,
   below-below t,
@@ -225,129 +52,10 @@ seen-link-at-requires : (t : ℕ) → seen-lts.Need-link-at-requires (
   started-reads.Learnt,
   sited-reads.Asked,
   sited-reads.Learnt,
-) (seen-at t) seen.Post
-seen-link-at-requires t c κs =
-    let r = c .before .before .before .before .pre .1 .0 in
-    omega (arith, r .sound .standing .few, r .linked .long)
+)
 
--- src/tree.rt:49:9
-seen-below-requires : (t : ℕ) → seen-lts.Need-below-requires (
-  link-at-reads.Asked,
-  link-at-reads.Learnt,
-  below-below t,
-  below.Post,
-  row-at-reads.Asked,
-  row-at-reads.Learnt,
-  started-reads.Asked,
-  started-reads.Learnt,
-  sited-reads.Asked,
-  sited-reads.Learnt,
-) (seen-at t) seen.Post
-seen-below-requires t c κs =
-    let s = c .before .before .before .before .before in
-    let r = s .pre .1 .0 in
-    let k = first-child r (s .args .row) (s .pre .1 .1) (c .link-at .ensures) in
-    let l = rows-length (s .args .rows .now) (s .args .due .now) 0 (s .args .n) in
-    (omega (arith, k .from, r .sound .standing .few), (r, (omega (arith, k .from), omega (arith, k .upto))))
-
--- src/tree.rt:50:9
-seen-row-at-requires : (t : ℕ) → seen-lts.Need-row-at-requires (
-  link-at-reads.Asked,
-  link-at-reads.Learnt,
-  below-below t,
-  below.Post,
-  row-at-reads.Asked,
-  row-at-reads.Learnt,
-  started-reads.Asked,
-  started-reads.Learnt,
-  sited-reads.Asked,
-  sited-reads.Learnt,
-) (seen-at t) seen.Post
-seen-row-at-requires t c κs = let o = c .before .before .before .before .before .before .pre .1 .0 .sound .standing in omega (arith, o .few, o .rows-long, o .due-long)
-
--- src/tree.rt:51:28
-seen-add-link-at : (t : ℕ) → seen-lts.Need-add-link-at (
-  link-at-reads.Asked,
-  link-at-reads.Learnt,
-  below-below t,
-  below.Post,
-  row-at-reads.Asked,
-  row-at-reads.Learnt,
-  started-reads.Asked,
-  started-reads.Learnt,
-  sited-reads.Asked,
-  sited-reads.Learnt,
-) (seen-at t) seen.Post
-seen-add-link-at t c = omega (arith, c .before .before .before .before .before .before .before .pre .1 .0 .sound .standing .few)
-
--- src/tree.rt:51:9
-seen-link-at-requires-2 : (t : ℕ) → seen-lts.Need-link-at-requires-2 (
-  link-at-reads.Asked,
-  link-at-reads.Learnt,
-  below-below t,
-  below.Post,
-  row-at-reads.Asked,
-  row-at-reads.Learnt,
-  started-reads.Asked,
-  started-reads.Learnt,
-  sited-reads.Asked,
-  sited-reads.Learnt,
-) (seen-at t) seen.Post
-seen-link-at-requires-2 t c κs =
-    let r = c .before .before .before .before .before .before .before .pre .1 .0 in
-    omega (arith, r .sound .standing .few, r .linked .long)
-
--- src/tree.rt:53:9
-seen-started-requires : (t : ℕ) → seen-lts.Need-started-requires (
-  link-at-reads.Asked,
-  link-at-reads.Learnt,
-  below-below t,
-  below.Post,
-  row-at-reads.Asked,
-  row-at-reads.Learnt,
-  started-reads.Asked,
-  started-reads.Learnt,
-  sited-reads.Asked,
-  sited-reads.Learnt,
-) (seen-at t) seen.Post
-seen-started-requires t c κs = tt
-
--- src/tree.rt:54:5
-seen-sited-requires : (t : ℕ) → seen-lts.Need-sited-requires (
-  link-at-reads.Asked,
-  link-at-reads.Learnt,
-  below-below t,
-  below.Post,
-  row-at-reads.Asked,
-  row-at-reads.Learnt,
-  started-reads.Asked,
-  started-reads.Learnt,
-  sited-reads.Asked,
-  sited-reads.Learnt,
-) (seen-at t) seen.Post
-seen-sited-requires t c κs =
-    let s = c .before .before .before .before .before .before .before .before .before in
-    site-needs (s .pre .1 .0) (s .args .row) (s .pre .1 .1) (c .before .before .row-at .ensures) (c .before .before .before .before .link-at .ensures) (c .before .before .before .below .ensures) (c .before .link-at2 .ensures) (c .started .ensures)
-
--- src/tree.rt:43:1
-seen-returns : (t : ℕ) → seen-lts.Need-returns (
-  link-at-reads.Asked,
-  link-at-reads.Learnt,
-  below-below t,
-  below.Post,
-  row-at-reads.Asked,
-  row-at-reads.Learnt,
-  started-reads.Asked,
-  started-reads.Learnt,
-  sited-reads.Asked,
-  sited-reads.Learnt,
-) (seen-at t) seen.Post
-seen-returns t c =
-    let s = c .before .before .before .before .before .before .before .before .before .before in
-    seen-step (s .pre .1 .0) (s .args .row) (s .pre .1 .1) (c .before .before .before .row-at .ensures) (c .before .before .before .before .before .link-at .ensures) (c .before .before .before .before .below .ensures) (c .before .before .link-at2 .ensures) (c .before .started .ensures) (c .sited .ensures)
-
-pub +below+seen-spec : {M : Type 1} → statement M
-+below+seen-spec = close μ-below μ-seen (λ t. below-lts.spec (
+abbrev below-claims : ℕ → below-lts.Claims
+below-claims t = (
   row-at-reads.Asked,
   row-at-reads.Learnt,
   seen-below t,
@@ -361,6 +69,95 @@ pub +below+seen-spec : {M : Type 1} → statement M
   beside-reads.Asked,
   beside-reads.Learnt,
 )
+
+below-returns : (t : ℕ) → below-lts.Need-returns (below-claims t) (below-at t) below.Post
+below-returns t c =
+    let s = c .before .before .before .before .before in
+    below-end (s .pre .1 .0) (s .args .c) (c .if1 .taken)
+
+below-row-at-requires : (t : ℕ) → below-lts.Need-row-at-requires (below-claims t) (below-at t) below.Post
+below-row-at-requires t c κs = let o = c .before .before .before .before .before .pre .1 .0 .sound .standing in omega (arith, o .few, o .rows-long, o .due-long)
+
+below-seen-requires : (t : ℕ) → below-lts.Need-seen-requires (below-claims t) (below-at t) below.Post
+below-seen-requires t c κs =
+    let s = c .before .before .before .before .before .before in
+    let o = s .pre .1 .0 .sound .standing in
+    (omega (arith, o .few), (s .pre .1 .0, omega (arith, c .before .if1 .left)))
+
+below-behind-wire-requires : (t : ℕ) → below-lts.Need-behind-wire-requires (below-claims t) (below-at t) below.Post
+below-behind-wire-requires t c κs =
+    let s = c .before .before .before .before .before .before .before in
+    let more : s .args .c < s .args .n = omega (arith, c .before .before .if1 .left) in
+    wire-needs (s .pre .1 .0) (s .args .c) (s .pre .1 .1 .0) more (c .before .row-at .ensures) (c .seen .ensures)
+
+below-add-link-at : (t : ℕ) → below-lts.Need-add-link-at (below-claims t) (below-at t) below.Post
+below-add-link-at t c = omega (arith, c .before .before .before .before .before .before .before .before .pre .1 .0 .sound .standing .few)
+
+below-link-at-requires : (t : ℕ) → below-lts.Need-link-at-requires (below-claims t) (below-at t) below.Post
+below-link-at-requires t c κs =
+    let r = c .before .before .before .before .before .before .before .before .pre .1 .0 in
+    omega (arith, r .sound .standing .few, r .linked .long, c .before .before .before .if1 .left)
+
+below-below-requires : (t : ℕ) → below-lts.Need-below-requires (below-claims t) (below-at t) below.Post
+below-below-requires t c κs =
+    let s = c .before .before .before .before .before .before .before .before .before in
+    let r = s .pre .1 .0 in
+    let more : s .args .c < s .args .n = omega (arith, c .before .before .before .before .if1 .left) in
+    let k = next-child r (s .args .c) (s .pre .1 .1 .0) more (c .link-at .ensures) in
+    let l = rows-length (s .args .rows .now) (s .args .due .now) 0 (s .args .n) in
+    (omega (arith, k .from, r .sound .standing .few), (r, (omega (arith, k .from), omega (arith, k .upto))))
+
+below-beside-requires : (t : ℕ) → below-lts.Need-beside-requires (below-claims t) (below-at t) below.Post
+below-beside-requires t c κs =
+    let s = c .before .before .before .before .before .before .before .before .before .before in
+    let more : s .args .c < s .args .n = omega (arith, c .before .before .before .before .before .if1 .left) in
+    beside-needs (s .pre .1 .0) (s .args .c) (s .pre .1 .1 .0) more (c .before .before .before .before .row-at .ensures) (c .before .before .before .seen .ensures) (c .before .before .behind-wire .ensures) (c .before .link-at .ensures) (c .below .ensures)
+
+below-returns-2 : (t : ℕ) → below-lts.Need-returns-2 (below-claims t) (below-at t) below.Post
+below-returns-2 t c =
+    let s = c .before .before .before .before .before .before .before .before .before .before .before in
+    let more : s .args .c < s .args .n = omega (arith, c .before .before .before .before .before .before .if1 .left) in
+    below-step (s .pre .1 .0) (s .args .c) (s .pre .1 .1 .0) more (c .before .before .before .before .before .row-at .ensures) (c .before .before .before .before .seen .ensures) (c .before .before .before .behind-wire .ensures) (c .before .before .link-at .ensures) (c .before .below .ensures) (c .beside .ensures)
+
+seen-link-at-requires : (t : ℕ) → seen-lts.Need-link-at-requires (seen-claims t) (seen-at t) seen.Post
+seen-link-at-requires t c κs =
+    let r = c .before .before .before .before .pre .1 .0 in
+    omega (arith, r .sound .standing .few, r .linked .long)
+
+seen-below-requires : (t : ℕ) → seen-lts.Need-below-requires (seen-claims t) (seen-at t) seen.Post
+seen-below-requires t c κs =
+    let s = c .before .before .before .before .before in
+    let r = s .pre .1 .0 in
+    let k = first-child r (s .args .row) (s .pre .1 .1) (c .link-at .ensures) in
+    let l = rows-length (s .args .rows .now) (s .args .due .now) 0 (s .args .n) in
+    (omega (arith, k .from, r .sound .standing .few), (r, (omega (arith, k .from), omega (arith, k .upto))))
+
+seen-row-at-requires : (t : ℕ) → seen-lts.Need-row-at-requires (seen-claims t) (seen-at t) seen.Post
+seen-row-at-requires t c κs = let o = c .before .before .before .before .before .before .pre .1 .0 .sound .standing in omega (arith, o .few, o .rows-long, o .due-long)
+
+seen-add-link-at : (t : ℕ) → seen-lts.Need-add-link-at (seen-claims t) (seen-at t) seen.Post
+seen-add-link-at t c = omega (arith, c .before .before .before .before .before .before .before .pre .1 .0 .sound .standing .few)
+
+seen-link-at-requires-2 : (t : ℕ) → seen-lts.Need-link-at-requires-2 (seen-claims t) (seen-at t) seen.Post
+seen-link-at-requires-2 t c κs =
+    let r = c .before .before .before .before .before .before .before .pre .1 .0 in
+    omega (arith, r .sound .standing .few, r .linked .long)
+
+seen-started-requires : (t : ℕ) → seen-lts.Need-started-requires (seen-claims t) (seen-at t) seen.Post
+seen-started-requires t c κs = tt
+
+seen-sited-requires : (t : ℕ) → seen-lts.Need-sited-requires (seen-claims t) (seen-at t) seen.Post
+seen-sited-requires t c κs =
+    let s = c .before .before .before .before .before .before .before .before .before in
+    site-needs (s .pre .1 .0) (s .args .row) (s .pre .1 .1) (c .before .before .row-at .ensures) (c .before .before .before .before .link-at .ensures) (c .before .before .before .below .ensures) (c .before .link-at2 .ensures) (c .started .ensures)
+
+seen-returns : (t : ℕ) → seen-lts.Need-returns (seen-claims t) (seen-at t) seen.Post
+seen-returns t c =
+    let s = c .before .before .before .before .before .before .before .before .before .before in
+    seen-step (s .pre .1 .0) (s .args .row) (s .pre .1 .1) (c .before .before .before .row-at .ensures) (c .before .before .before .before .before .link-at .ensures) (c .before .before .before .before .below .ensures) (c .before .before .link-at2 .ensures) (c .before .started .ensures) (c .sited .ensures)
+
+pub +below+seen-spec : {M : Type 1} → statement M
++below+seen-spec = close μ-below μ-seen (λ t. below-lts.spec (below-claims t)
     (below-at t)
     below.Post
     (below-returns t)
@@ -372,18 +169,7 @@ pub +below+seen-spec : {M : Type 1} → statement M
     (below-below-requires t)
     (below-beside-requires t)
     (below-returns-2 t))
-    λ t. seen-lts.spec (
-      link-at-reads.Asked,
-      link-at-reads.Learnt,
-      below-below t,
-      below.Post,
-      row-at-reads.Asked,
-      row-at-reads.Learnt,
-      started-reads.Asked,
-      started-reads.Learnt,
-      sited-reads.Asked,
-      sited-reads.Learnt,
-    )
+    λ t. seen-lts.spec (seen-claims t)
     (seen-at t)
     seen.Post
     (seen-link-at-requires t)
