@@ -12,20 +12,20 @@ use lib.Signed.{mag}
 use Rattle.rules.specs.declared.Femtofarad.{Femtofarad}
 use Rattle.rules.specs.declared.Femtosecond.{Femtosecond}
 use Rattle.rules.specs.declared.Kind.{Kind}
+use Rattle.rules.specs.declared.Kind.the-variants.{Driver, Point, Sink}
 use Rattle.rules.specs.declared.Refusal.the-variants.{NoRow}
 use Rattle.rules.specs.declared.Slacking.{Slacking}
 use Rattle.rules.specs.declared.Slacking.the-variants.{Slack, Refused}
-use Rattle.rules.specs.declared.Kind.the-variants.{Driver, Point, Sink}
 use Rattle.rules.specs.Quantities.{_⊖_, mostOhms, mostFemtofarads, mostOwn, mostLoad, typesRoom, sitesRoom, placementRoom}
 use Rattle.rules.specs.Entries.{Repeater}
 use Rattle.rules.specs.Placements.{Placement, marks}
 use Rattle.rules.specs.Tables.{typeWords}
-use Rattle.laws.specs.Tabled.{repeaterAt, repeatersFrom, repeaters-at}
-use Rattle.laws.specs.Ranges.{RepeaterInRange}
 use Rattle.rules.specs.Net.{Wire, Tree, sink, site, sited, seen, wired, beside}
 use Rattle.rules.specs.Slack.{typeOf, seenLoad, repeaterDelay, wireDelay, load}
 use Rattle.laws.specs.Integers.{minℤ, ⊖-zero, ⊖-⊖}
 use Rattle.laws.specs.Trees.{time}
+use Rattle.laws.specs.Ranges.{RepeaterInRange}
+use Rattle.laws.specs.Tabled.{repeaterAt, repeatersFrom, repeaters-at}
 use Rattle.rows.specs.declared.Buffer.{Buffer}
 use Rattle.rows.specs.Rows.{IsBuffer}
 use Rattle.slack.specs.declared.Hung.{Hung}
@@ -42,31 +42,35 @@ seen-is l t a b e f = λ i. Seen (record { 0 = e i }) (record { 0 = f i })
 abbrev pub farTime : ℕ
 farTime = 3_000_000_000_000_000
 
--- in its ranges
+-- a load and a time in their ranges
 abbrev pub Within : Hung → Type 0
 Within Nothing = Unit {0}
 Within (Seen l t) = (l .0 ≤ mostLoad) × (mag (t .0) ≤ farTime)
 
+-- a type's three quantities in theirs
 pub record BufferIn (b : Buffer) : Type 0 where
   pub input : b .input .0 ≤ mostFemtofarads
   pub resistance : b .resistance .0 ≤ mostOhms
   pub own : mag (b .own .0) ≤ mostOwn
 
 -- ---- the steps
+-- behind a wire: the whole capacitance counts at the far end
 unfoldable pub wireHung : (resistance capacitance : ℕ) → Hung → Hung
 wireHung r c Nothing = Nothing
 wireHung r c (Seen l t) = seenAs (c + l .0) (t .0 ⊖ (r * (c + l .0)))
 
+-- beside each other: the loads together, and the time of the one that is due first
 unfoldable pub besideHung : Hung → Hung → Hung
 besideHung Nothing b = b
 besideHung (Seen l t) Nothing = Seen l t
 besideHung (Seen l t) (Seen m u) = seenAs (l .0 + m .0) (minℤ (t .0) (u .0))
 
--- behind a repeater of a type
+-- behind a repeater of a type, worked out from the load it drives
 unfoldable pub repeatHung : Repeater → Hung → Hung
 repeatHung x Nothing = Nothing
 repeatHung x (Seen l t) = seenAs (x .input) (t .0 ⊖ (x .own + x .resistance * l .0))
 
+-- with the repeater of a mark, 0 for none, and of a row's site, if it has one
 unfoldable pub markHung : List Repeater → (mark : ℕ) → Hung → Hung
 markHung types zero h = h
 markHung types (suc m) h = repeatHung (typeOf types (suc m)) h
@@ -83,6 +87,7 @@ startHung (Sink pin) h = seenAs (pin .load .0) (pin .due .0)
 
 -- ---- what they give
 module _ (types : List Repeater) (p : Placement) where
+  -- the load and the time of a tree, if there is one
   unfoldable pub hungOf : Option Tree → Hung
   hungOf none = Nothing
   hungOf (some t) = seenAs (load types p t) (time types p t)
@@ -131,7 +136,8 @@ module _ (types : List Repeater) (p : Placement) where
 abbrev pub tableTypes : List ℕ → List Repeater
 tableTypes types = repeatersFrom types 0 typesRoom
 
-pub record Siting (types : List ℕ) (words : List ℕ) (k : ℕ) (h : Hung) : Type 0 where
+-- what hangs at site k, and what the step there needs
+pub record Siting (types words : List ℕ) (k : ℕ) (h : Hung) : Type 0 where
   pub types-long : typeWords * typesRoom ≤ length types
   pub words-long : placementRoom ≤ length words
   pub inside : Within h
@@ -149,10 +155,11 @@ unfolding markHung
 mark-type types zero h p q = absurd (omega arith)
 mark-type types (suc m) h p q = let z : suc m - 1 ≡ m = omega arith in rw (z, type-is types typesRoom m (omega arith))
 
+-- a type in its ranges has its quantities in theirs
 pub buffer-in : {x : Repeater} {b : Buffer} → IsBuffer x b → RepeaterInRange x → BufferIn b
 buffer-in i r = record { input = rw (i .input) (r .input); resistance = rw (i .resistance) (r .resistance); own = rw (i .own) (r .own) }
 
--- ---- at the driver: its delay is its resistance times its driven load
+-- ---- at the driver: its delay is its resistance times its driven load. Something hangs under every driver, so the first line is never used
 unfoldable pub slackHung : (driver : ℕ) → Hung → Slacking
 slackHung driver Nothing = Refused NoRow
 slackHung driver (Seen l t) = Slack (record { 0 = t .0 ⊖ (driver * l .0) }) l
