@@ -23,3 +23,12 @@ pub mod Room
 pub mod MethodAt
 pub mod Walk
 pub mod Tabled
+pub mod Listing
+pub mod Figures
+pub mod Settled
+pub mod Words
+pub mod Examples
+pub mod Given
+pub mod Kept
+pub mod StandIns
+pub mod StandInLists

@@ -8,7 +8,7 @@ use native.Mathlib.Nat.{le-trans, le-refl}
 use lib.IntN.{ℤ}
 use lib.Signed.{_≤ℤ_, _<ℤ_}
 use lib.ListN.{length}
-use Rattle.laws.specs.Integers.{times, ⊖-mono, ⊖-strict, ≤-or-<, ≤-refl, ≤-trans, ≤-antisym, minℤ, min-lesser, min-greatest, min-above, min-mono, Order, less, equal, more, order}
+use Rattle.laws.specs.Integers.{times, ⊖-mono, ⊖-strict, ≤-or-<, ≤-refl, ≤-trans, ≤-antisym, minℤ, Lesser, min-lesser, min-greatest, min-above, min-mono, Order, less, equal, more, order}
 use Rattle.rules.specs.Quantities.{_⊖_}
 use Rattle.rules.specs.Lists.{All, Any, Pairwise, nil, cons, here, there}
 use Rattle.laws.specs.Lists.{all-imp, any-imp, any-all, all-map, any-map, all-with, any-with, all-head, all-tail, all-++, any-left, any-right}
@@ -132,6 +132,11 @@ next a b c (equal h) = c
 module _ {W : Type 0} (join : W → W → W) where
   unfoldable pub joined : Cand W → Cand W → Cand W
   joined a b = record { load = a .load + b .load; time = minℤ (a .time) (b .time); place = join (a .place) (b .place) }
+
+  -- of the two times the lesser counts
+  pub joined-time : (a b : Cand W) → Lesser (a .time) (b .time) (joined a b .time)
+  unfolding joined
+  joined-time a b = min-lesser (a .time) (b .time)
 
   abbrev pub Joins : (R S : Cand W → Type 0) → Cand W → Type 0
   Joins R S d = (a : Cand W) × (b : Cand W) × R a × S b × (d ≡ joined a b)

@@ -1,6 +1,6 @@
 -- The refused examples of the paper, computed from the definitions, and net A's entries read from its text. Assumes nothing.
 use mathlib.Core.Path.{_≡_, refl}
-use mathlib.Core.List.{List, [], _∷_}
+use mathlib.Core.List.{List, [], _∷_, map}
 use mathlib.Core.Option.{Option, none, some}
 use Prim.Native.Char.{code}
 use Prim.Native.Nat.{ℕ}
@@ -8,10 +8,10 @@ use Prim.Native.String as text
 use Prim.Native.String.{String}
 use lib.IntN.{ℤ, pos, negsuc}
 use Rattle.rules.specs.declared.Refusal.{Refusal}
-use Rattle.rules.specs.declared.Refusal.the-variants.{Form, Range, Room, Parent, Childless}
+use Rattle.rules.specs.declared.Refusal.the-variants.{Form, Range, Room, Parent, Childless, Mark, Short, NoRow}
 use Rattle.rules.specs.Entries.{Entry, type, driver, point, sink, typesOf, rowsOf, rowOf, sitesOf}
 use Rattle.rules.specs.Text.{textEntries, linesOf, lineOf, lettered, typeLine, driverLine, pointLine, sinkLine, parted, number, digits, signed}
-use Rattle.rules.specs.Refusals.{refusalOf, firstRefusal, lineRefusal, lastRefusal, misplaced, outOfRange, tooMany, orphan, noParent, childless, lineOfRow}
+use Rattle.rules.specs.Refusals.{numberOf, placeOf, refusalOf, firstRefusal, lineRefusal, lastRefusal, misplaced, outOfRange, tooMany, orphan, noParent, childless, lineOfRow}
 
 -- the bytes of a text, ASCII
 unfoldable pub bytes : String → List ℕ
@@ -23,6 +23,10 @@ entries s = textEntries (bytes s)
 
 abbrev pub refusal : String → Option Refusal
 refusal s = refusalOf (entries s)
+
+-- one of each kind
+abbrev allRefusals : List Refusal
+allRefusals = Form 9 ∷ Range 9 ∷ Room 9 ∷ Parent 9 ∷ Childless 9 ∷ Mark 9 ∷ Short ∷ NoRow ∷ []
 
 pub record Examples : Type 0 where
   pub read-A : entries "T\t2\t3\t10\nD\t20\nW\t0\t4\t5\t1\nS\t1\t6\t7\t0\t8\t1000\n" ≡ type 2 3 10 ∷ driver 20 ∷ point 0 4 5 1 ∷ sink 1 6 7 0 8 (pos 1000) ∷ []
@@ -53,6 +57,11 @@ pub record Examples : Type 0 where
   -- a sink as parent; a point with nothing below it
   pub under-sink : refusal "D\t5\nS\t0\t0\t0\t0\t1\t-1\nS\t1\t0\t0\t0\t1\t0\n" ≡ some (Parent 3)
   pub childless-point : refusal "D\t5\nW\t0\t0\t0\t0\nW\t0\t0\t0\t0\nS\t1\t0\t0\t0\t1\t0\n" ≡ some (Childless 3)
+  -- the first of two such
+  pub childless-first : refusal "D\t5\nW\t0\t0\t0\t0\nW\t0\t0\t0\t0\n" ≡ some (Childless 2)
+  -- the numbers and places that the paper gives them
+  pub numbers : map numberOf allRefusals ≡ 1 ∷ 2 ∷ 3 ∷ 4 ∷ 5 ∷ 6 ∷ 7 ∷ 8 ∷ []
+  pub places : map placeOf allRefusals ≡ 9 ∷ 9 ∷ 9 ∷ 9 ∷ 9 ∷ 9 ∷ 0 ∷ 0 ∷ []
 
 pub examples : Examples
 unfolding bytes textEntries linesOf lineOf lettered typeLine driverLine pointLine sinkLine parted number digits signed typesOf rowsOf rowOf refusalOf firstRefusal lineRefusal lastRefusal misplaced outOfRange tooMany sitesOf orphan noParent childless lineOfRow
@@ -76,4 +85,7 @@ examples = record {
   minus-zero = refl;
   under-sink = refl;
   childless-point = refl;
+  childless-first = refl;
+  numbers = refl;
+  places = refl;
 }
