@@ -54,6 +54,7 @@ neither : (a b : Bool) → (a || b) ≡ false → (a ≡ false) × (b ≡ false)
 neither true b e = absurd (true≢false e)
 neither false b e = (refl, e)
 
+-- each area has its room
 record Long (types rows : List ℕ) (due : List ℤ) : Type 0 where
   types-room : typeWords * typesRoom ≤ length types
   rows-room : rowWords * rowsRoom ≤ length rows
@@ -68,6 +69,7 @@ passes-is : (o : Option Refusal) → Passes ≡ checkingOf o → o ≡ none
 passes-is none e = refl
 passes-is (some q) e = absurd (let z : _≡_ {A = ℕ} 0 1 = cc in omega arith)
 
+-- the driver is the first row
 driver-first : (net : List Row) → 1 ≤ length net → driverOhms net ≡ getD net 0 noRow .resistance .0
 driver-first [] h = absurd (omega arith)
 driver-first (x ∷ net) h = refl
@@ -114,10 +116,12 @@ module _ {types rows : List ℕ} {due : List ℤ} {count n : ℕ} {words : List 
   known : placementRefusal es (marks words) ≡ none → (j : ℕ) → marks words j ≤ count
   known h j = rw (held .types-are, repeaters-length) at (marks-legality es words (accepted es (G .accepted)) (tree .0) (tree .1) .0 h .known j)
 
+  -- what the walk over the tree stands on
   pub sound-of : placementRefusal es (marks words) ≡ none → Sound rows due types words n
   sound-of h = sound rows due types words count n standing (long .types-room) (ltb-false _ _ (G .words-long)) (held .types-few) ok (known h)
 
   -- ---- what is answered
+  -- only refusal 6 is left
   settles : slackRefusal (tablesOf types rows due) (countsOf count n) words ≡ placementRefusal es (marks words)
   unfolding slackRefusal tablesRefusal
   settles = rw (G .tables-long, G .words-long, G .accepted)
@@ -127,6 +131,7 @@ module _ {types rows : List ℕ} {due : List ℤ} {count n : ℕ} {words : List 
   unfolding SlackPromise slackFigures
   promise-refused e = rw (settles, stops-is (placementRefusal es (marks words)) e) refl
 
+  -- no refusal 6
   pub passes : Passes ≡ checkingOf (placementRefusal es (marks words)) → placementRefusal es (marks words) ≡ none
   passes e = passes-is (placementRefusal es (marks words)) e
 

@@ -41,6 +41,7 @@ module _ (es : List Entry) (p : Placement) where
   unfolding marksFrom
   marks-step j h = let z : sitesRoom - j ≡ suc (sitesRoom - (j + 1)) = omega arith in rw z
 
+  -- a mark that is refused stops it, any other lets it go on; past the last mark nothing is refused
   pub marks-stop : (j : ℕ) {r : Refusal} → j < sitesRoom → markRefusal es p j ≡ some r → marksFrom es p j (sitesRoom - j) ≡ some r
   marks-stop j h e = marks-step j h ∙ rw e
 
@@ -68,6 +69,7 @@ pub record PastFrom (words : List ℕ) (from j : ℕ) : Type 0 where
   pub inside : j ≤ sitesRoom
   pub left : (es : List Entry) → sitesOf (rowsOf es) ≤ from → marksFrom es (marks words) from (sitesRoom - from) ≡ marksFrom es (marks words) j (sitesRoom - j)
 
+-- from the first; a mark stops it, none lets it go on; past the last mark nothing is refused
 pub past-start : {words : List ℕ} {from : ℕ} → from ≤ sitesRoom → PastFrom words from from
 past-start h = record { on = omega arith; inside = h; left = λ es n. refl }
 
@@ -108,10 +110,12 @@ module _ {rows : List ℕ} {due : List ℤ} {types n : ℕ} {words : List ℕ} (
   abbrev net : List Row
   net = rowsFrom rows due 0 n
 
+  -- from the first row
   pub passed-start : Passed rows due types n words 0 0
   unfolding placementRefusal
   passed-start = record { inside = omega arith; sites = sym (sitesBefore-zero net); left = λ es N. refl }
 
+  -- the sites of the rows that have passed are in their room
   pub sites-room : {i k : ℕ} → Passed rows due types n words i k → k ≤ sitesRoom
   sites-room {i} P = omega (arith, P .sites, M .sites-few, before-few net i)
 

@@ -64,6 +64,7 @@ child-under net r i c k = go (decLt c (length net))
     go (yes h) = rw (k .below h) (sym (k .same))
     go (no h) = under-end net _ c (omega arith) ∙ sym (under-end net r c (omega arith)) ∙ sym (k .same)
 
+-- what a row starts from is in its ranges
 start-in : (kind : Kind) (h : Hung) → KindIn kind → Within h → Within (startHung kind h)
 start-in Driver h k w = w
 start-in Point h k w = w
@@ -81,13 +82,16 @@ module _ {rows : List ℕ} {due : List ℤ} {types words links : List ℕ} {n : 
   long : length net ≡ n
   long = rows-length rows due 0 n
 
+  -- past the last row nothing hangs
   pub below-end : (c : ℕ) → n ≡ c → Nothing ≡ hungBelow rows due types words n c
   unfolding hungBelow hungOf
   below-end c e = rw (under-end net (getD net c noRow .parent) c (rw long (omega arith)))
 
+  -- the next row under the same parent
   pub next-child : (c : ℕ) {next : ℕ} → 1 ≤ c → c < n → next ≡ getD links (nextAt + c) 0 → Child net (getD net c noRow .parent) (c + 1) next
   next-child c h g e = rw (e, R .linked .next c h (rw long g)) (child-is net (getD net c noRow .parent) (c + 1) (rw long (omega arith)))
 
+  -- the first row below row r
   pub first-child : (r : ℕ) {first : ℕ} → r < n → first ≡ getD links r 0 → Child net r (r + 1) first
   first-child r g e = rw (e, R .linked .first r (rw long g)) (child-is net r (r + 1) (rw long (omega arith)))
 
@@ -108,6 +112,7 @@ module _ {rows : List ℕ} {due : List ℤ} {types words links : List ℕ} {n : 
     wire-needs e = (rw row at (R .sound .row-in c inside .resistance), (rw e (R .sound .seen-in c inside), rw (own-is e) (R .sound .own-in c some inside)))
 
     module _ {h own later : Hung} {next : ℕ} (h-is : h ≡ hungAt rows due types words n c) (own-by : own ≡ wireHung (x .resistance .0) (x .capacitance .0) h) (next-is : next ≡ getD links (nextAt + c) 0) (later-is : later ≡ hungBelow rows due types words n next) where
+      -- row c behind its wire, beside those after it
       pub below-step : {all : Hung} → all ≡ besideHung own later → all ≡ hungBelow rows due types words n c
       unfolding hungBelow
       below-step e =
@@ -116,6 +121,7 @@ module _ {rows : List ℕ} {due : List ℤ} {types words links : List ℕ} {n : 
           ∙ sym (hung-beside (tableTypes types) (marks words) (wired (wireOf (getD net c noRow)) (seenAt net c)) (under net (getD net c noRow .parent) (c + 1)))
           ∙ ap (hungOf (tableTypes types) (marks words)) (sym t)
 
+      -- which is in its ranges
       pub beside-needs : Within (besideHung own later)
       unfolding hungBelow
       beside-needs = rw (below-step refl) (R .sound .under-in (getD net c noRow .parent) c (R .sound .earlier c some (rw long inside)))
@@ -141,6 +147,7 @@ module _ {rows : List ℕ} {due : List ℤ} {types words links : List ℕ} {n : 
       known = R .sound .known k;
     }
 
+    -- the pin of row i, or what hangs under it, with its repeater
     pub seen-step : {driven there : Hung} → driven ≡ startHung (x .kind) below → there ≡ siteHung (tableTypes types) (x .site) (marks words k) driven → there ≡ hungAt rows due types words n i
     unfolding hungAt seenAt
     seen-step e f = rw (f, e, hanging, number, ← there) (sym (hung-seen (tableTypes types) (marks words) (getD net i noRow .site) (getD net i noRow .kind) (sitesBefore net i) (under net i (i + 1))))
