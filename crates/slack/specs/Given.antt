@@ -109,10 +109,11 @@ module _ {types rows : List ℕ} {due : List ℤ} {count n : ℕ} {words : List 
   pub net-of : NetOf rows due count n es
   net-of = record { types-are = rw (held .types-are) (repeaters-length types 0 count); rows-are = held .rows-are }
 
-  -- a placement that is not refused marks with types that there are
+  -- the tree at the driver
   tree : (t : Tree) × (atRow (rowsOf es) 0 ≡ some t)
   tree = let (t, e, q) = tree-at (accepted es (G .accepted)) 0 (omega (arith, rows-two (accepted es (G .accepted)))) in (t, e)
 
+  -- a placement that is not refused marks with types that there are
   known : placementRefusal es (marks words) ≡ none → (j : ℕ) → marks words j ≤ count
   known h j = rw (held .types-are, repeaters-length) at (marks-legality es words (accepted es (G .accepted)) (tree .0) (tree .1) .0 h .known j)
 
