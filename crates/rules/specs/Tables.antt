@@ -36,13 +36,12 @@ shortTables t = ltb (length (t .types)) (typeWords * typesRoom) || (ltb (length 
 unfoldable pub typeEntry : Tables → ℕ → Entry
 typeEntry t i = type (getD (t .types) (typeWords * i) 0) (getD (t .types) (typeWords * i + 1) 0) (getD (t .types) (typeWords * i + 2) 0)
 
-isZero : ℤ → Bool
+unfoldable pub isZero : ℤ → Bool
 isZero (pos n) = eqb n 0
 isZero (negsuc n) = false
 
 -- an entry of six words and a required time. A field not zero that its line would lack is malformed, and so is any other kind
 unfoldable pub rowBy : (kind parent resistance capacitance site pin : ℕ) (due : ℤ) → Entry
-unfolding isZero
 rowBy kind parent resistance capacitance site pin due =
     cond (eqb kind 0) (cond (eqb parent 0 && (eqb capacitance 0 && (eqb site 0 && (eqb pin 0 && isZero due)))) (driver resistance) malformed)
     (cond (eqb kind 1) (cond (eqb pin 0 && isZero due) (point parent resistance capacitance site) malformed)

@@ -95,19 +95,19 @@ pub fields-over : (e : Entry) (line : List ℕ) (at : ℕ) → at ≤ length lin
 fields-over e line at h = rw (fields-some line at h)
 
 -- what the readers at a place answer
-pub number-is : (line part : List ℕ) (at : ℕ) (r : Field) → at ≤ length line + 1 → part ≡ fieldAt line at → r ≡ fieldOf (number part) (at + length part + 1) → NumberAt line at r
-number-is line part at r h e g =
+pub number-is : (line part : List ℕ) (at : ℕ) (r : Field) → part ≡ fieldAt line at → r ≡ fieldOf (number part) (at + length part + 1) → NumberAt line at r
+number-is line part at r e g =
     record {
       value = rw e at g;
-      within = rw g (within-number part at (length line) h (rw e (length-fieldAt line at)));
+      within = rw g (within-number part at (length line) (rw e (length-fieldAt line at)));
     }
 
-pub time-is : (line part : List ℕ) (at : ℕ) (r : SignedField) → at ≤ length line + 1 → part ≡ fieldAt line at → r ≡ timeOf (signed part) (at + length part + 1) → TimeAt line at r
-time-is line part at r h e g =
+pub time-is : (line part : List ℕ) (at : ℕ) (r : SignedField) → part ≡ fieldAt line at → r ≡ timeOf (signed part) (at + length part + 1) → TimeAt line at r
+time-is line part at r e g =
     record {
       value = rw e at g;
-      within = rw g (within-time part at (length line) h (rw e (length-fieldAt line at)));
+      within = rw g (within-time part at (length line) (rw e (length-fieldAt line at)));
     }
 
-pub next-fits : (line part : List ℕ) (at : ℕ) → at ≤ length line + 1 → part ≡ fieldAt line at → at + length part + 1 ≤ length line + 2
+pub next-fits : (line part : List ℕ) (at : ℕ) → at ≤ length line + 2 → part ≡ fieldAt line at → at + length part + 1 ≤ length line + 3
 next-fits line part at h e = rw e (omega (arith, length-fieldAt line at))

@@ -187,7 +187,7 @@ kept-is f n next e h = rw (e, toZ-pos w64 {n = n} (omega arith))
 minus : (n : ℕ) → pos 0 -ℤ pos n ≡ negℤ (pos n)
 minus n = +ℤ-idl (negℤ (pos n))
 
-mag-minus : (n : ℕ) → mag (negℤ (pos n)) ≤ n
+pub mag-minus : (n : ℕ) → mag (negℤ (pos n)) ≤ n
 mag-minus zero = omega arith
 mag-minus (suc n) = omega arith
 
@@ -198,19 +198,19 @@ pub negated-is : (f : Field) (n next : ℕ) → f ≡ Number n next → n ≤ ca
 negated-is f n next e h z = rw (e, toZ-pos w64 {n = n} (omega arith), minus n, bits-back (negℤ (pos n)) (omega (arith, mag-minus n)), ne-eqb n 0 z)
 
 -- ---- a field that reads as a number is not empty, so it stands in the line
-pub within-number : (part : List ℕ) (at long : ℕ) → at ≤ long + 1 → length part ≤ long - at → Within long (fieldOf (number part) (at + length part + 1))
+pub within-number : (part : List ℕ) (at long : ℕ) → length part ≤ long - at → Within long (fieldOf (number part) (at + length part + 1))
 unfolding number
-within-number [] at long h g = tt
-within-number (b ∷ s) at long h g = by (number (b ∷ s))
+within-number [] at long g = tt
+within-number (b ∷ s) at long g = by (number (b ∷ s))
   where
     by : (o : Option ℕ) → Within long (fieldOf o (at + length (b ∷ s) + 1))
     by none = tt
     by (some n) = omega arith
 
-pub within-time : (part : List ℕ) (at long : ℕ) → at ≤ long + 1 → length part ≤ long - at → WithinTime long (timeOf (signed part) (at + length part + 1))
+pub within-time : (part : List ℕ) (at long : ℕ) → length part ≤ long - at → WithinTime long (timeOf (signed part) (at + length part + 1))
 unfolding signed
-within-time [] at long h g = tt
-within-time (b ∷ s) at long h g = by (signed (b ∷ s))
+within-time [] at long g = tt
+within-time (b ∷ s) at long g = by (signed (b ∷ s))
   where
     by : (o : Option ℤ) → WithinTime long (timeOf o (at + length (b ∷ s) + 1))
     by none = tt

@@ -154,7 +154,7 @@ pub fn signed_of(part: &[u8], next: usize) -> SignedField
 
 // The number, and the time, of the field that starts at a place of a line.
 pub fn number_at(line: &[u8], at: usize) -> Field
-    requires { ⌜ at ≤ length (now line) + 1 ⌝ }
+    requires { ⌜ at ≤ length (now line) + 2 ⌝ }
     ensures { λ r. ⌜ NumberAt (now (line .entry)) at r ⌝ }
 {
     let part = field_at(line, at);
@@ -162,7 +162,7 @@ pub fn number_at(line: &[u8], at: usize) -> Field
 }
 
 pub fn signed_at(line: &[u8], at: usize) -> SignedField
-    requires { ⌜ at ≤ length (now line) + 1 ⌝ }
+    requires { ⌜ at ≤ length (now line) + 2 ⌝ }
     ensures { λ r. ⌜ TimeAt (now (line .entry)) at r ⌝ }
 {
     let part = field_at(line, at);

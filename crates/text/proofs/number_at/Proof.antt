@@ -9,7 +9,7 @@ field-at-requires : tie.Need-field-at-requires
 field-at-requires c κs = search needs
 
 add-number-of : tie.Need-add-number-of
-add-number-of c = search needs
+add-number-of c = omega (arith, next-fits (c .before .before .args .line .now) (c .field-at .result .now) (c .before .before .args .at) (c .before .before .pre) (c .field-at .ensures))
 
 add-number-of-2 : tie.Need-add-number-of-2
 add-number-of-2 c = omega (arith, next-fits (c .before .before .args .line .now) (c .field-at .result .now) (c .before .before .args .at) (c .before .before .pre) (c .field-at .ensures))
@@ -18,7 +18,7 @@ number-of-requires : tie.Need-number-of-requires
 number-of-requires c κs = search needs
 
 returns : tie.Need-returns
-returns c = number-is (c .before .before .before .args .line .now) (c .before .field-at .result .now) (c .before .before .before .args .at) (c .number-of .result) (c .before .before .before .pre) (c .before .field-at .ensures) (c .number-of .ensures)
+returns c = number-is (c .before .before .before .args .line .now) (c .before .field-at .result .now) (c .before .before .before .args .at) (c .number-of .result) (c .before .field-at .ensures) (c .number-of .ensures)
 
 pub number-at-spec : {M : Type 1} → statement M
 number-at-spec =

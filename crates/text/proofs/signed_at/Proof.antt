@@ -9,7 +9,7 @@ field-at-requires : tie.Need-field-at-requires
 field-at-requires c κs = search needs
 
 add-signed-of : tie.Need-add-signed-of
-add-signed-of c = search needs
+add-signed-of c = omega (arith, next-fits (c .before .before .args .line .now) (c .field-at .result .now) (c .before .before .args .at) (c .before .before .pre) (c .field-at .ensures))
 
 add-signed-of-2 : tie.Need-add-signed-of-2
 add-signed-of-2 c = omega (arith, next-fits (c .before .before .args .line .now) (c .field-at .result .now) (c .before .before .args .at) (c .before .before .pre) (c .field-at .ensures))
@@ -18,7 +18,7 @@ signed-of-requires : tie.Need-signed-of-requires
 signed-of-requires c κs = search needs
 
 returns : tie.Need-returns
-returns c = time-is (c .before .before .before .args .line .now) (c .before .field-at .result .now) (c .before .before .before .args .at) (c .signed-of .result) (c .before .before .before .pre) (c .before .field-at .ensures) (c .signed-of .ensures)
+returns c = time-is (c .before .before .before .args .line .now) (c .before .field-at .result .now) (c .before .before .before .args .at) (c .signed-of .result) (c .before .field-at .ensures) (c .signed-of .ensures)
 
 pub signed-at-spec : {M : Type 1} → statement M
 signed-at-spec =

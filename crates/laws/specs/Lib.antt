@@ -1,0 +1,13 @@
+pub mod Integers
+pub mod Lists
+pub mod Candidates
+pub mod Thinning
+pub mod Steps
+pub mod Trees
+pub mod Joining
+pub mod Moves
+pub mod Method
+pub mod Bounds
+pub mod Ranges
+pub mod Walk
+pub mod Tabled

@@ -1,0 +1,18 @@
+-- `rows::next_site` meets its contract. Assumes nothing.
+use native.Mathlib.Omega.{arith}
+use borrow.Author.Needs.{needs}
+use Rattle.rows.proofs.next_site.Statement.{statement}
+use Rattle.rows.proofs.next_site.Tie as tie
+use Rattle.rows.proofs.next_site.Reads as reads
+
+add-result : tie.Need-add-result
+add-result c = search needs
+
+returns : tie.Need-returns
+returns c = rw (c .if1 .taken)
+
+returns-2 : tie.Need-returns-2
+returns-2 c = rw (c .if1 .left) (omega arith)
+
+pub next-site-spec : {M : Type 1} → statement M
+next-site-spec = tie.close (tie.spec add-result returns returns-2)

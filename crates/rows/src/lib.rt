@@ -1,0 +1,150 @@
+// One row or type of a table by value, and where the rows below each row stand, so that a walk over the tree reads each row once.
+use rules::Femtofarad;
+use rules::Femtosecond;
+use rules::Kind;
+use rules::Ohm;
+use rules::Pin;
+use rules::Row;
+ghost use mathlib.Core.Path.{_≡_};
+ghost use mathlib.Core.List.{List};
+ghost use Prim.Native.Nat.{ℕ, _+_, _*_, _≤_, _<_};
+ghost use lib.ListN.{length, getD};
+ghost use Rattle.rules.specs.Entries.{siteCount};
+ghost use Rattle.rules.specs.Quantities.{typesRoom, rowsRoom};
+ghost use Rattle.rules.specs.Tables.{typeWords, rowWords};
+ghost use Rattle.laws.specs.Tabled.{kindOf, rowAt, rowsFrom, repeaterAt};
+ghost use Rattle.rows.specs.Rows.{IsBuffer};
+ghost use Rattle.rows.specs.Links.{Links, Earlier, Counted, Standing, linksRoom};
+
+const ROW_WORDS: usize = 6;
+
+const TYPE_WORDS: usize = 3;
+
+const NEXT_AT: usize = 256;
+
+const SITES_AT: usize = 512;
+
+// A type of repeater, its three quantities apart.
+pub struct Buffer {
+    pub input: Femtofarad,
+    pub resistance: Ohm,
+    pub own: Femtosecond,
+}
+
+// 0 is a driver, 1 a plain point, anything else a sink.
+pub fn kind_of(kind: u32, pin: u32, due: i64) -> Kind
+    ensures { λ r. ⌜ r ≡ kindOf kind pin due ⌝ }
+{
+    if kind == 0 {
+        return Kind::Driver;
+    }
+    if kind == 1 {
+        return Kind::Point;
+    }
+    Kind::Sink(Pin {
+        load: Femtofarad(pin),
+        due: Femtosecond(due),
+    })
+}
+
+pub fn row_at(rows: &[u32], due: &[i64], i: usize) -> Row
+    requires { ⌜ (i < rowsRoom) × ((rowWords * i + rowWords ≤ length (now rows)) × (i < length (now due))) ⌝ }
+    ensures { λ r. ⌜ r ≡ rowAt (now (rows .entry)) (now (due .entry)) i ⌝ }
+{
+    let at = ROW_WORDS * i;
+    let when = due[i];
+    let kind = kind_of(rows[at], rows[at + 5], when);
+    let parent = rows[at + 1];
+    let site = rows[at + 4] == 1;
+    Row {
+        parent,
+        resistance: Ohm(rows[at + 2]),
+        capacitance: Femtofarad(rows[at + 3]),
+        site,
+        kind,
+    }
+}
+
+pub fn type_at(types: &[u32], i: usize) -> Buffer
+    requires { ⌜ (i < typesRoom) × (typeWords * i + typeWords ≤ length (now types)) ⌝ }
+    ensures { λ r. ⌜ IsBuffer (repeaterAt (now (types .entry)) i) r ⌝ }
+{
+    let at = TYPE_WORDS * i;
+    Buffer {
+        input: Femtofarad(types[at]),
+        resistance: Ohm(types[at + 1]),
+        own: units::time_of(types[at + 2]),
+    }
+}
+
+// A row's place in a table of links.
+fn place(i: usize) -> u16
+    requires { ⌜ i ≤ rowsRoom ⌝ }
+    ensures { λ r. ⌜ r ≡ i ⌝ }
+{
+    i as u16
+}
+
+fn wide(x: u16) -> usize
+    ensures { λ r. ⌜ r ≡ x ⌝ }
+{
+    x as usize
+}
+
+// The number of the next site, behind a row that has one or none.
+pub fn next_site(site: bool, k: usize) -> usize
+    requires { ⌜ k ≤ rowsRoom ⌝ }
+    ensures { λ r. ⌜ r ≡ k + siteCount site ⌝ }
+{
+    if site {
+        return k + 1;
+    }
+    k
+}
+
+// How many sites come before each row; and no row is below any row so far.
+fn count_sites(rows: &[u32], due: &[i64], n: usize, links: &mut [u16])
+    requires { ⌜ Standing (now rows) (now due) n ⌝ }
+    requires { ⌜ length (now links) ≡ linksRoom ⌝ }
+    ensures { λ _. ⌜ Counted (rowsFrom (now (rows .entry)) (now (due .entry)) 0 n) (now (links .exit)) ⌝ }
+{
+    let mut i = 0;
+    let mut k = 0;
+    while i < n {
+        let x = row_at(rows, due, i);
+        links[i] = place(n);
+        links[SITES_AT + i] = place(k);
+        k = next_site(x.site, k);
+        i += 1;
+    }
+}
+
+// From the last row to the first, each is put before the rows below its parent that are linked already.
+fn link_rows(rows: &[u32], due: &[i64], n: usize, links: &mut [u16])
+    requires { ⌜ Standing (now rows) (now due) n ⌝ }
+    requires { ⌜ Earlier (rowsFrom (now rows) (now due) 0 n) ⌝ }
+    requires { ⌜ Counted (rowsFrom (now rows) (now due) 0 n) (now links) ⌝ }
+    ensures { λ _. ⌜ Links (rowsFrom (now (rows .entry)) (now (due .entry)) 0 n) (now (links .exit)) ⌝ }
+{
+    let mut i = n;
+    while 1 < i {
+        let m = i - 1;
+        let x = row_at(rows, due, m);
+        let p = x.parent as usize;
+        let behind = links[p];
+        links[NEXT_AT + m] = behind;
+        links[p] = place(m);
+        i = m;
+    }
+}
+
+// Where the rows below each row stand, for a table whose rows hang under earlier ones.
+pub fn link(rows: &[u32], due: &[i64], n: usize, links: &mut [u16])
+    requires { ⌜ Standing (now rows) (now due) n ⌝ }
+    requires { ⌜ Earlier (rowsFrom (now rows) (now due) 0 n) ⌝ }
+    requires { ⌜ length (now links) ≡ linksRoom ⌝ }
+    ensures { λ _. ⌜ Links (rowsFrom (now (rows .entry)) (now (due .entry)) 0 n) (now (links .exit)) ⌝ }
+{
+    count_sites(rows, due, n, links);
+    link_rows(rows, due, n, links);
+}

@@ -1,0 +1,3 @@
+-- What the contracts of `units` cite, and the laws that callers cite. Assumes nothing.
+pub mod Times
+pub mod Bits
