@@ -1,3 +1,10 @@
 pub mod Lines
 pub mod Checks
 pub mod LineLaws
+pub mod Entries
+pub mod Held
+pub mod Below
+pub mod Steps
+pub mod TableSteps
+pub mod Words
+pub mod EntryLaws

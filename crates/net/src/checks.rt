@@ -136,7 +136,7 @@ fn no_parent(rows: &[u32], count: usize, parent: u32) -> bool
     rows[ROW_WORDS * above] == 2
 }
 
-fn check_type(n: Passed, t: Repeater) -> Checking
+pub fn check_type(n: Passed, t: Repeater) -> Checking
     requires { ⌜ FewPassed n ⌝ }
     ensures { λ r. ⌜ r ≡ checking (firstOf (ltb 0 (n .rows)) (typeOut t) (leb 4 (n .types)) false (placeAt n)) ⌝ }
 {

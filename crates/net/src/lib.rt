@@ -9,6 +9,11 @@ use rules::Refusal;
 
 mod lines;
 mod checks;
+pub mod entries;
+mod areas;
+mod below;
+mod reads;
+mod tables;
 
 // Words of a type and of a row in the tables.
 pub const TYPE_WORDS: usize = 3;
