@@ -1,5 +1,6 @@
 pub mod Integers
 pub mod Lists
+pub mod Tests
 pub mod Candidates
 pub mod Thinning
 pub mod Steps
@@ -9,5 +10,16 @@ pub mod Moves
 pub mod Method
 pub mod Bounds
 pub mod Ranges
+pub mod Taken
+pub mod Accepted
+pub mod Rows
+pub mod Hanging
+pub mod Whole
+pub mod Legality
+pub mod Sums
+pub mod Within
+pub mod Waiting
+pub mod Room
+pub mod MethodAt
 pub mod Walk
 pub mod Tabled

@@ -1,22 +1,22 @@
 -- The rows as they are walked: what hangs under a row among the rows from a place on, the next row below it, and how many sites come
 -- before. Assumes nothing.
 use mathlib.Core.Path.{_≡_, refl, sym, ap, _∙_}
-use mathlib.Core.Bool.{Bool, true, false, cond}
+use mathlib.Core.Bool.{cond}
 use mathlib.Core.List.{List, [], _∷_}
-use mathlib.Core.Option.{Option, none, some}
+use mathlib.Core.Option.{Option, none}
 use Prim.Native.Nat.{ℕ, zero, suc, _+_, _-_, _≤_, _<_}
 use native.Mathlib.Omega.{arith}
 use native.Mathlib.Decide.{ℕ-discrete}
 use native.Mathlib.Numerals.{add-one}
-use lib.Dec.{T, eqb, eqb→eq, eqb-refl}
-use lib.IntN.{pos}
-use lib.ListN.{length, getD, take, drop, length-drop}
-use lib.Seq.{drop-cons, take-suc}
-use Rattle.rules.specs.declared.Kind.{Kind}
-use Rattle.rules.specs.declared.Kind.the-variants.{Driver, Point, Sink}
+use lib.Dec.{eqb}
+use lib.ListN.{length, getD, take, drop}
+use lib.Seq.{drop-cons}
+use Rattle.rules.specs.declared.Kind.the-variants.{Driver}
 use Rattle.rules.specs.declared.Row.{Row}
 use Rattle.rules.specs.Entries.{siteCount, sitesOf, rowOf}
-use Rattle.rules.specs.Net.{Wire, Tree, wireOf, seen, wired, beside, hangs, at, atRow}
+use Rattle.rules.specs.Net.{Tree, wireOf, seen, wired, beside, hangs, atRow}
+use Rattle.laws.specs.Tests.{same, other, cond-yes, cond-no}
+use Rattle.laws.specs.Hanging.{hangs-end, hangs-taken, hangs-passed, atRow-is}
 
 -- what stands for a row past the last
 unfoldable pub noRow : Row
@@ -67,33 +67,19 @@ drop-end [] (suc i) h = refl
 drop-end (x ∷ rows) zero h = absurd (omega arith)
 drop-end (x ∷ rows) (suc i) h = drop-end rows i (omega arith)
 
-eqb-yes : (a b : ℕ) → a ≡ b → eqb a b ≡ true
-eqb-yes a b e = by (eqb a b) (rw e (eqb-refl b))
-  where
-    by : (t : Bool) → T t → t ≡ true
-    by true h = refl
-    by false h = absurd h
-
-eqb-no : (a b : ℕ) → ¬ (a ≡ b) → eqb a b ≡ false
-eqb-no a b h = by (eqb a b) (λ t. h (eqb→eq a b t))
-  where
-    by : (t : Bool) → (T t → ⊥) → t ≡ false
-    by true h = absurd (h tt)
-    by false h = refl
-
 pub under-end : (rows : List Row) (r i : ℕ) → length rows ≤ i → under rows r i ≡ none
-unfolding under hangs
-under-end rows r i h = rw (drop-end rows i h)
+unfolding under
+under-end rows r i h = rw (drop-end rows i h, hangs-end)
 
 -- row i is directly below r: it hangs beside what hangs there of the rows after it
 pub under-taken : (rows : List Row) (r i : ℕ) → i < length rows → getD rows i noRow .parent ≡ r → under rows r i ≡ beside (wired (wireOf (getD rows i noRow)) (seenAt rows i)) (under rows r (i + 1))
-unfolding under seenAt hangs
-under-taken rows r i h e = rw (drop-step rows i h, eqb-yes (getD rows i noRow .parent) r e, sitesBefore-step rows i h)
+unfolding under seenAt
+under-taken rows r i h e = rw (drop-step rows i h, sitesBefore-step rows i h) (hangs-taken i (sitesBefore rows i) (getD rows i noRow) (drop (i + 1) rows) r e)
 
 -- row i is not
 pub under-passed : (rows : List Row) (r i : ℕ) → i < length rows → ¬ (getD rows i noRow .parent ≡ r) → under rows r i ≡ under rows r (i + 1)
-unfolding under hangs
-under-passed rows r i h e = rw (drop-step rows i h, eqb-no (getD rows i noRow .parent) r e, sitesBefore-step rows i h)
+unfolding under
+under-passed rows r i h e = rw (drop-step rows i h, sitesBefore-step rows i h) (hangs-passed i (sitesBefore rows i) (getD rows i noRow) (drop (i + 1) rows) r e)
 
 -- ---- the next row below
 pub child-end : (rows : List Row) (r i : ℕ) → length rows ≤ i → child rows r i ≡ i
@@ -102,11 +88,11 @@ child-end rows r i h = rw (drop-end rows i h)
 
 pub child-taken : (rows : List Row) (r i : ℕ) → i < length rows → getD rows i noRow .parent ≡ r → child rows r i ≡ i
 unfolding child childFrom
-child-taken rows r i h e = rw (drop-step rows i h, eqb-yes (getD rows i noRow .parent) r e)
+child-taken rows r i h e = rw (drop-step rows i h) (cond-yes (eqb (getD rows i noRow .parent) r) _ _ (same e))
 
 pub child-passed : (rows : List Row) (r i : ℕ) → i < length rows → ¬ (getD rows i noRow .parent ≡ r) → child rows r i ≡ child rows r (i + 1)
 unfolding child childFrom
-child-passed rows r i h e = rw (drop-step rows i h, eqb-no (getD rows i noRow .parent) r e)
+child-passed rows r i h e = rw (drop-step rows i h) (cond-no (eqb (getD rows i noRow .parent) r) _ _ (other e))
 
 -- where the next row below is: not before, not past the end, and directly below r unless it is the end
 pub record Child (rows : List Row) (r i c : ℕ) : Type 0 where
@@ -130,26 +116,6 @@ child-is rows r i h = go (length rows - i) i h (omega arith)
     go (suc left) i h e = step i (omega arith) (ℕ-discrete (getD rows i noRow .parent) r) (go left (i + 1) (omega arith) (omega arith))
 
 -- ---- what is at a row
-tail-is : (rows : List Row) (all : List Row) (x : Row) (i : ℕ) → drop i all ≡ x ∷ rows → i < length all → (x ≡ getD all i noRow) × (drop (i + 1) all ≡ rows)
-tail-is rows all x i e h =
-    let here : x ∷ rows ≡ getD all i noRow ∷ drop (i + 1) all = sym e ∙ drop-step all i h in
-    (cc here, cc here)
-
-drop-inside : (i : ℕ) (rows all : List Row) (x : Row) → drop i all ≡ x ∷ rows → i < length all
-drop-inside i rows all x e = let q : length (drop i all) ≡ suc (length rows) = ap length e in omega (arith, length-drop i all)
-
-at-from : (i r : ℕ) (rows all : List Row) → drop i all ≡ rows → i ≤ r → r < length all → at i (sitesBefore all i) rows r ≡ seenAt all r
-unfolding at seenAt under
-at-from i r [] all e h g = absurd (let q : length (drop i all) ≡ 0 = ap length e in omega (arith, length-drop i all))
-at-from i r (x ∷ rows) all e h g =
-    let j = drop-inside i rows all x e in
-    let t = tail-is rows all x i e j in
-    go j (t .0) (t .1) (ℕ-discrete i r) (λ q. at-from (i + 1) r rows all (t .1) (omega arith) g)
-  where
-    go : (j : i < length all) → x ≡ getD all i noRow → drop (i + 1) all ≡ rows → Dec (i ≡ r) → (¬ (i ≡ r) → at (i + 1) (sitesBefore all (i + 1)) rows r ≡ seenAt all r) → at i (sitesBefore all i) (x ∷ rows) r ≡ seenAt all r
-    go j f t (yes q) ih = rw (eqb-yes i r q, ← q, f, ← t, sitesBefore-step all i j)
-    go j f t (no q) ih = rw (eqb-no i r q, f, ← (sitesBefore-step all i j)) (ih q)
-
-pub atRow-is : (rows : List Row) (r : ℕ) → r < length rows → atRow rows r ≡ seenAt rows r
-unfolding atRow sitesBefore sitesOf
-atRow-is rows r h = at-from 0 r rows rows refl (omega arith) h
+pub atRow-seen : (rows : List Row) (r : ℕ) → r < length rows → atRow rows r ≡ seenAt rows r
+unfolding seenAt under sitesBefore
+atRow-seen rows r h = atRow-is noRow rows r h ∙ rw (sitesBefore-step rows r h)

@@ -1,0 +1,79 @@
+-- What is true of the marks that words hold. Assumes nothing.
+use mathlib.Core.Path.{_≡_, refl, sym, ap, _∙_, fun-ext}
+use mathlib.Core.List.{List, [], _∷_, _++_}
+use Prim.Native.Nat.{ℕ, zero, suc, _*_, _/_, _%_, _^_, _≤_, _<_}
+use native.Mathlib.Decide.{ℕ-discrete}
+use native.Mathlib.Nat.{mod-lt, div-eq-of-lt, lt-of-lt-of-le}
+use native.Mathlib.Omega.{arith}
+use lib.ListN.{length, getD, take, length-take, List·getD-eq-default}
+use lib.Pow.{pow-pos, pow-mono}
+use lib.Seq.{getD-take, take-all, take-append-le}
+use Rattle.rules.specs.Quantities.{placementRoom, sitesRoom}
+use Rattle.rules.specs.Placements.{Placement, markIn, marks}
+use Rattle.laws.specs.Joining.{set, set-here, set-there}
+
+-- how many marks a word has, and the first number that four bits do not hold
+abbrev pub marksInWord : ℕ
+marksInWord = 16
+
+abbrev pub marksEnd : ℕ
+marksEnd = 16
+
+-- what has m at j and agrees with p elsewhere is p with m at j
+pub set-unique : (j m : ℕ) (p q : Placement) → q j ≡ m → ((s : ℕ) → ¬ (s ≡ j) → q s ≡ p s) → q ≡ set j m p
+set-unique j m p q there else = fun-ext (λ s. by s (ℕ-discrete s j))
+  where
+    by : (s : ℕ) → Dec (s ≡ j) → q s ≡ set j m p s
+    by s (yes e) = rw e (there ∙ sym (set-here j m p))
+    by s (no f) = else s f ∙ sym (set-there j m p s f)
+
+-- ---- the marks of a word
+pub markIn-size : (word i : ℕ) → markIn word i < marksEnd
+unfolding markIn
+markIn-size word i = mod-lt (word / 2 ^ (4 * i)) (pow-pos 4)
+
+-- past the last place of a word there is none
+pub markIn-beyond : (word i : ℕ) → word < 2 ^ 64 → marksInWord ≤ i → markIn word i ≡ 0
+unfolding markIn
+markIn-beyond word i h l = rw (div-eq-of-lt {n = word} {m = 2 ^ (4 * i)} (lt-of-lt-of-le h (pow-mono {i = 64} {j = 4 * i} (omega arith))))
+
+markIn-zero : (i : ℕ) → markIn 0 i ≡ 0
+unfolding markIn
+markIn-zero i = rw (div-eq-of-lt {n = 0} {m = 2 ^ (4 * i)} (pow-pos (4 * i)))
+
+-- ---- the marks of a placement's words
+pub marks-size : (words : List ℕ) (j : ℕ) → marks words j < marksEnd
+unfolding marks
+marks-size words j = markIn-size (getD (take placementRoom words) (j / 16) 0) (j % 16)
+
+-- of a site that a placement has room for, the mark is in one of the words as they stand
+pub marks-in : (words : List ℕ) (j : ℕ) → j < sitesRoom → marks words j ≡ markIn (getD words (j / 16) 0) (j % 16)
+unfolding marks
+marks-in words j h = ap (λ (word : ℕ). markIn word (j % 16)) (getD-take placementRoom words (j / 16) 0 (omega arith))
+
+-- of four words, at every site
+pub marks-whole : (words : List ℕ) (j : ℕ) → length words ≡ placementRoom → marks words j ≡ markIn (getD words (j / 16) 0) (j % 16)
+unfolding marks
+marks-whole words j e = ap (λ (room : List ℕ). markIn (getD room (j / 16) 0) (j % 16)) (take-all placementRoom words (omega arith))
+
+-- past the last site there is none
+pub marks-beyond : (words : List ℕ) (j : ℕ) → sitesRoom ≤ j → marks words j ≡ 0
+unfolding marks
+marks-beyond words j h = ap (λ (word : ℕ). markIn word (j % 16)) (List·getD-eq-default (take placementRoom words) 0 {n = j / 16} (omega (arith, length-take placementRoom words))) ∙ markIn-zero (j % 16)
+
+-- of a longer area the part beyond is not read
+pub marks-front : (words beyond : List ℕ) → length words ≡ placementRoom → marks (words ++ beyond) ≡ marks words
+unfolding marks
+marks-front words beyond e = fun-ext (λ j. ap (λ (room : List ℕ). markIn (getD room (j / 16) 0) (j % 16)) (take-append-le placementRoom words beyond (omega arith)))
+
+zero-word : (n : ℕ) → _≡_ {A = ℕ} (getD (0 ∷ 0 ∷ 0 ∷ 0 ∷ []) n 0) 0
+zero-word zero = refl
+zero-word (suc zero) = refl
+zero-word (suc (suc zero)) = refl
+zero-word (suc (suc (suc zero))) = refl
+zero-word (suc (suc (suc (suc n)))) = refl
+
+-- four zero words mark no site
+pub marks-zero : marks (0 ∷ 0 ∷ 0 ∷ 0 ∷ []) ≡ (λ j. 0)
+unfolding marks
+marks-zero = fun-ext (λ j. ap (λ (word : ℕ). markIn word (j % 16)) (zero-word (j / 16)) ∙ markIn-zero (j % 16))
