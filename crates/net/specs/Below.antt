@@ -3,7 +3,7 @@ use mathlib.Core.Path.{_≡_}
 use mathlib.Core.Bool.{Bool, true, false, cond}
 use mathlib.Core.List.{List, [], _∷_}
 use mathlib.Core.Option.{Option, none, some}
-use Prim.Native.Nat.{ℕ, _*_}
+use Prim.Native.Nat.{ℕ, _*_, _<_}
 use lib.Dec.{eqb, ltb}
 use lib.IntN.{ℤ}
 use lib.ListN.{length, take, set, replicate}
@@ -38,6 +38,11 @@ marksOf (x ∷ rows) = markedWith (x .parent) (marksOf rows)
 -- the words of the rows say which is the first childless one
 abbrev pub FirstChildless : (words : List ℕ) (count : ℕ) → Found → Type 0
 FirstChildless words count r = (rows : List Row) → length rows ≡ count → rowTable rows ≡ take (6 * count) words → r ≡ foundOf (childless 0 rows)
+
+-- a row that was found is one of them
+abbrev pub FoundIn : (count : ℕ) → Found → Type 0
+FoundIn count (At i) = i < count
+FoundIn count Nothing = Unit {0}
 
 -- what the checks after the last line give
 abbrev pub Finished : (words : List ℕ) → Passed → Taking → Type 0

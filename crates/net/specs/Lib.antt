@@ -8,3 +8,9 @@ pub mod Steps
 pub mod TableSteps
 pub mod Words
 pub mod EntryLaws
+pub mod HeldLaws
+pub mod Passing
+pub mod Cut
+pub mod HoldLaws
+pub mod Taking
+pub mod BelowLaws

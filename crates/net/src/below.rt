@@ -7,8 +7,8 @@ use super::Taking;
 use super::checks::place_of;
 ghost use mathlib.Core.Path.{_≡_};
 ghost use Prim.Native.Nat.{_+_, _*_, _≤_, _<_};
-ghost use lib.ListN.{length};
-ghost use Rattle.net.specs.Below.{foundWith, markedWith, FirstChildless, Finished};
+ghost use lib.ListN.{length, replicate};
+ghost use Rattle.net.specs.Below.{foundWith, markedWith, FirstChildless, FoundIn, Finished};
 ghost use Rattle.net.specs.Checks.{FewPassed};
 
 // A row number, or none.
@@ -41,21 +41,31 @@ fn mark(below: &mut [u8], parent: u32)
     }
 }
 
-// The first of `count` rows that is no sink and has no row below it. From the last row back, since what lies below comes after.
-fn first_childless(rows: &[u32], count: usize) -> Found
-    requires { ⌜ (count ≤ 256) × (6 * count ≤ length (now rows)) ⌝ }
-    ensures { λ r. ⌜ FirstChildless (now (rows .entry)) count r ⌝ }
+// The first of `count` rows that is no sink and has no row below it, from the last row back, since what lies below comes after.
+// `below` has no mark yet.
+fn childless_with(rows: &[u32], count: usize, below: &mut [u8]) -> Found
+    requires { ⌜ ((count ≤ 256) × (6 * count ≤ length (now rows))) × (now below ≡ replicate 256 0) ⌝ }
+    ensures first { λ r. ⌜ FirstChildless (now (rows .entry)) count r ⌝ }
+    ensures among { λ r. ⌜ FoundIn count r ⌝ }
 {
-    let mut below = [0u8; 256];
     let mut found = Found::Nothing;
     let mut i = count;
     while 0 < i {
         i -= 1;
         let at = ROW_WORDS * i;
         found = found_with(rows[at], below[i], i, found);
-        mark(&mut below[..], rows[at + 1]);
+        mark(below, rows[at + 1]);
     }
     found
+}
+
+fn first_childless(rows: &[u32], count: usize) -> Found
+    requires { ⌜ (count ≤ 256) × (6 * count ≤ length (now rows)) ⌝ }
+    ensures first { λ r. ⌜ FirstChildless (now (rows .entry)) count r ⌝ }
+    ensures among { λ r. ⌜ FoundIn count r ⌝ }
+{
+    let mut below = [0u8; 256];
+    childless_with(rows, count, &mut below[..])
 }
 
 // After the last line: 1 where there is no driver, then 5.

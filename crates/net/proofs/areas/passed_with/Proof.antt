@@ -33,19 +33,19 @@ enum-told-3 : tie.Need-enum-told-3
 enum-told-3 c = search needs
 
 returns : tie.Need-returns
-returns c = ?
+returns c = ap (countedWith (c .before .before .args .n)) (sym (c .enum-told .given .1))
 
 returns-2 : tie.Need-returns-2
-returns-2 c = ?
+returns-2 c = c .with-row .ensures ∙ ap (countedWith (c .before .before .before .args .n)) (sym (c .before .enum-told2 .given .1))
 
 returns-3 : tie.Need-returns-3
-returns-3 c = ?
+returns-3 c = c .with-row2 .ensures ∙ ap (countedWith (c .before .before .before .before .args .n)) (sym (c .before .before .line .given .1))
 
 returns-4 : tie.Need-returns-4
-returns-4 c = ?
+returns-4 c = c .with-row3 .ensures ∙ ap (countedWith (c .before .before .before .before .args .n)) (sym (c .before .before .line2 .given .1))
 
 returns-5 : tie.Need-returns-5
-returns-5 c = search needs
+returns-5 c = ap (countedWith (c .before .before .args .n)) (sym (c .enum-told3 .given .1))
 
 pub passed-with-spec : {M : Type 1} → statement M
 passed-with-spec =

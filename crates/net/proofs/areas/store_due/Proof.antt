@@ -15,7 +15,7 @@ same-length : tie.Need-same-length
 same-length c = search needs
 
 returns : tie.Need-returns
-returns c = ?
+returns c = rw (bits-back (c .args .time) (c .fits .time .sfits)) (one-stored (c .args .due .now) (c .args .i) (c .args .time) (c .pre))
 
 pub store-due-spec : {M : Type 1} → statement M
 store-due-spec = tie.close (tie.spec mul-time slice-set-from-time same-length returns)

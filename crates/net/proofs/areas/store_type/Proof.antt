@@ -40,7 +40,7 @@ same-length : tie.Need-same-length
 same-length c = search needs
 
 returns : tie.Need-returns
-returns c = ?
+returns c = rw (c .own-word .ensures) (three-stored (c .before .before .before .args .types .now) (c .before .before .before .args .i) (c .before .before .before .args .t .input .0) (c .before .before .before .args .t .resistance .0) _ (c .before .before .before .pre .1 .0))
 
 pub store-type-spec : {M : Type 1} → statement M
 store-type-spec =

@@ -1,50 +1,40 @@
+-- `net::below::finish` meets its contract: no driver, then the first childless row. Assumes nothing.
+use mathlib.Core.Path.{_≡_, refl, sym}
+use native.Mathlib.Omega.{arith}
+use Rattle.net.specs.BelowLaws.{finish-none, finish-at, finish-through, found-at}
 use borrow.Author.Needs.{needs}
 use Rattle.net.proofs.below.finish.Statement.{statement}
 use Rattle.net.proofs.below.finish.Tie as tie
-use Rattle.net.proofs.below.finish.Reads as reads
-use Rattle.net.proofs.below.finish.Lts as lts
-use Rattle.net.proofs.below.first_childless.Reads as first-childless-reads
-use Rattle.net.proofs.checks.place_of.Reads as place-of-reads
 
--- src/below.rt:68:46
 place-of-requires : tie.Need-place-of-requires
-place-of-requires c κs = search needs
+place-of-requires c κs = c .before .before .pre .0
 
--- src/below.rt:68:9
 returns : tie.Need-returns
-returns c = ?
+returns c = λ before types due h. rw (finish-none before types (c .before .before .before .args .rows .now) due (c .before .before .before .args .n) h (c .place-of .result) (c .place-of .ensures) (c .before .if1 .taken)) refl
 
--- src/below.rt:70:11
 first-childless-requires : tie.Need-first-childless-requires
-first-childless-requires c κs = search needs
+first-childless-requires c κs = (c .before .before .pre .0 .rows, c .before .before .pre .1)
 
--- src/below.rt:71:19
 enum-known-i : tie.Need-enum-known-i
 enum-known-i c = search needs
 
--- src/below.rt:71:61
 add-t10 : tie.Need-add-t10
-add-t10 c = ?
+add-t10 c = omega (arith, c .before .before .before .before .before .before .before .pre .0 .types, c .before .before .before .before .before .before .before .pre .0 .rows, found-at (c .before .before .before .before .before .before .before .args .n .rows) (c .before .before .before .before .first-childless .result) (c .before .before .i .given .0 .0) (c .before .before .i .given .1) (c .before .before .before .before .first-childless .ensures .1))
 
--- src/below.rt:71:61
 add-t11 : tie.Need-add-t11
-add-t11 c = ?
+add-t11 c = omega (arith, c .before .before .before .before .before .before .before .pre .0 .types, c .before .before .before .before .before .before .before .pre .0 .rows, found-at (c .before .before .before .before .before .before .before .args .n .rows) (c .before .before .before .before .first-childless .result) (c .before .before .i .given .0 .0) (c .before .before .i .given .1) (c .before .before .before .before .first-childless .ensures .1))
 
--- src/below.rt:71:60
 cast-t12 : tie.Need-cast-t12
-cast-t12 c = ?
+cast-t12 c = omega (arith, c .before .before .before .before .before .before .before .pre .0 .types, c .before .before .before .before .before .before .before .pre .0 .rows, found-at (c .before .before .before .before .before .before .before .args .n .rows) (c .before .before .before .before .first-childless .result) (c .before .before .i .given .0 .0) (c .before .before .i .given .1) (c .before .before .before .before .first-childless .ensures .1))
 
--- src/below.rt:72:27
 enum-told : tie.Need-enum-told
 enum-told c = search needs
 
--- src/below.rt:62:1
 returns-2 : tie.Need-returns-2
-returns-2 c = ?
+returns-2 c = λ before types due h. rw (finish-at before types (c .before .before .before .before .before .before .before .args .rows .now) due (c .before .before .before .before .before .before .before .args .n) h (c .before .before .before .before .first-childless .result) (c .before .before .i .given .0 .0) _ (c .before .before .before .before .before .if1 .left) (c .before .before .before .before .first-childless .ensures .0) (c .before .before .i .given .1) refl) refl
 
--- src/below.rt:62:1
 returns-3 : tie.Need-returns-3
-returns-3 c = ?
+returns-3 c = λ before types due h. rw (finish-through before types (c .before .before .before .before .before .args .rows .now) due (c .before .before .before .before .before .args .n) h (c .before .before .first-childless .result) (c .before .before .before .if1 .left) (c .before .before .first-childless .ensures .0) (c .enum-told .given .1)) refl
 
 pub finish-spec : {M : Type 1} → statement M
 finish-spec =

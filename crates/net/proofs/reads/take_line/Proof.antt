@@ -1,65 +1,51 @@
+-- `net::reads::take_line` meets its contract: a refused line is refused for what the list says, and an accepted one is stored and held.
+-- Assumes nothing.
+use mathlib.Core.Path.{_≡_, refl, sym, ap, _∙_}
+use Rattle.rules.specs.Text.{parted, lineOf}
+use Rattle.text.specs.Stretches.{tab}
+use Rattle.net.specs.Taking.{line-room, line-refused, line-held}
 use borrow.Author.Needs.{needs}
 use Rattle.net.proofs.reads.take_line.Statement.{statement}
 use Rattle.net.proofs.reads.take_line.Tie as tie
-use Rattle.net.proofs.reads.take_line.Reads as reads
-use Rattle.net.proofs.reads.take_line.Lts as lts
-use Rattle.net.proofs.areas.passed_with.Reads as passed-with-reads
-use Rattle.net.proofs.areas.store_line.Reads as store-line-reads
-use Rattle.net.proofs.checks.check_line.Reads as check-line-reads
-use Rattle.net.proofs.checks.place_of.Reads as place-of-reads
-use Rattle.net.proofs.lines.read_line.Reads as read-line-reads
 
--- src/reads.rt:26:9
 place-of-requires : tie.Need-place-of-requires
 place-of-requires c κs = search needs
 
--- src/reads.rt:27:9
 read-line-requires : tie.Need-read-line-requires
 read-line-requires c κs = search needs
 
--- src/reads.rt:28:11
 check-line-requires : tie.Need-check-line-requires
 check-line-requires c κs = search needs
 
--- src/reads.rt:29:27
 enum-known-r : tie.Need-enum-known-r
 enum-known-r c = search needs
 
--- src/reads.rt:31:24
 enum-told : tie.Need-enum-told
 enum-told c = search needs
 
--- src/reads.rt:31:13
 store-line-requires : tie.Need-store-line-requires
-store-line-requires c κs = ?
+store-line-requires c κs = (line-room (c .before .before .before .before .before .before .before .before .before .before .before .before .args .rows .now) (c .before .before .before .before .before .before .before .before .before .before .before .before .args .n) (c .before .before .before .before .before .before .before .read-line .result) (c .before .before .before .before .before .check-line .result) (c .before .before .before .before .before .before .before .before .before .before .before .before .pre .0) (c .before .before .before .before .before .check-line .ensures) (c .before .before .before .enum-told .given .1) .0, (c .before .before .before .before .before .before .before .before .before .before .before .before .pre .1 .types-room, (c .before .before .before .before .before .before .before .before .before .before .before .before .pre .1 .rows-room, c .before .before .before .before .before .before .before .before .before .before .before .before .pre .1 .due-room)))
 
--- src/reads.rt:32:27
 passed-with-requires : tie.Need-passed-with-requires
 passed-with-requires c κs = search needs
 
--- src/reads.rt:22:1
 same-length : tie.Need-same-length
 same-length c = search needs
 
--- src/reads.rt:22:1
 returns : tie.Need-returns
-returns c = ?
+returns c = λ before h. line-refused before (c .before .before .before .before .before .before .before .before .before .before .args .types .now) (c .before .before .before .before .before .before .before .before .before .before .args .rows .now) (c .before .before .before .before .before .before .before .before .before .before .args .due .now) (c .before .before .before .before .before .before .before .before .before .before .args .n) h (lineOf (parted tab (c .before .before .before .before .before .before .before .before .before .before .args .line .now))) (c .before .before .before .before .before .before .place-of .result) (c .before .before .before .before .before .read-line .result) (c .before .before .before .check-line .result) (c .before .before .before .before .before .before .place-of .ensures) (c .before .before .before .before .before .read-line .ensures) (c .before .before .before .check-line .ensures) (c .before .r .given .0 .0) (c .before .r .given .1)
 
--- src/reads.rt:22:1
 same-length-2 : tie.Need-same-length-2
 same-length-2 c = search needs
 
--- src/reads.rt:22:1
 same-length-3 : tie.Need-same-length-3
 same-length-3 c = search needs
 
--- src/reads.rt:22:1
 same-length-4 : tie.Need-same-length-4
 same-length-4 c = search needs
 
--- src/reads.rt:22:1
 returns-2 : tie.Need-returns-2
-returns-2 c = ?
+returns-2 c = λ before h. line-held before (c .before .before .before .before .before .before .before .before .before .before .before .before .before .before .before .before .before .before .before .args .types .now) (c .before .before .before .before .before .before .before .before .before .before .before .before .before .before .before .before .before .before .before .args .rows .now) (c .before .before .before .before .before .before .before .before .before .before .before .before .before .before .before .before .before .before .before .args .due .now) (c .before .before .before .before .before .before .before .before .before .before .before .before .before .before .before .before .before .before .before .args .n) h (lineOf (parted tab (c .before .before .before .before .before .before .before .before .before .before .before .before .before .before .before .before .before .before .before .args .line .now))) (c .before .before .before .before .before .before .before .before .before .before .before .before .before .before .before .place-of .result) (c .before .before .before .before .before .before .before .before .before .before .before .before .before .before .read-line .result) (c .before .before .before .before .before .before .before .before .before .before .before .before .check-line .result) (c .before .before .before .before .before .before .before .before .before .before .before .before .before .before .before .place-of .ensures) (c .before .before .before .before .before .before .before .before .before .before .before .before .before .before .read-line .ensures) (c .before .before .before .before .before .before .before .before .before .before .before .before .check-line .ensures) _ _ _ (c .passed-with .result) (c .before .before .before .before .before .before .before .before .before .before .enum-told .given .1) (c .before .before .before .before .before .before .store-line .ensures) (c .passed-with .ensures)
 
 pub take-line-spec : {M : Type 1} → statement M
 take-line-spec =
