@@ -14,3 +14,5 @@ pub mod Cut
 pub mod HoldLaws
 pub mod Taking
 pub mod BelowLaws
+pub mod ReadLaws
+pub mod Filled

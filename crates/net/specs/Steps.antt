@@ -3,6 +3,7 @@ use mathlib.Core.Path.{_≡_}
 use mathlib.Core.List.{List, [], _∷_, _++_}
 use mathlib.Core.Option.{Option, none, some}
 use Prim.Native.Nat.{ℕ, _≤_}
+use native.Mathlib.Omega.{arith}
 use lib.IntN.{ℤ}
 use lib.ListN.{length, drop}
 use Rattle.rules.specs.Entries.{Entry}
@@ -47,3 +48,9 @@ pub record Reaches (text : List ℕ) (at : ℕ) (types rows : List ℕ) (due : L
   pub held : Holds before types rows due n
   pub all : textEntries text ≡ before ++ linesFrom text at
   pub first : firstRefusal [] (textEntries text) ≡ firstRefusal before (linesFrom text at)
+
+-- areas that keep their length keep their room
+pub rooms-kept : (types types′ rows rows′ : List ℕ) (due due′ : List ℤ) → Rooms types rows due
+    → length types′ ≡ length types → length rows′ ≡ length rows → length due′ ≡ length due → Rooms types′ rows′ due′
+rooms-kept types types′ rows rows′ due due′ r a b c =
+    record { types-room = omega (arith, r .types-room); rows-room = omega (arith, r .rows-room); due-room = omega (arith, r .due-room) }

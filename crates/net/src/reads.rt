@@ -1,9 +1,14 @@
 // A text, line by line, into areas that hold what has passed.
 use rules::Checking;
+use rules::Reading;
 use rules::Refusal;
 use text::stretch_end;
 use super::Passed;
+use super::ROW_WORDS;
+use super::TYPE_WORDS;
 use super::Taking;
+use super::areas::copy_times;
+use super::areas::copy_words;
 use super::areas::passed_with;
 use super::areas::store_line;
 use super::below::finish;
@@ -15,6 +20,8 @@ ghost use Prim.Native.Nat.{_+_, _*_, _≤_, _<_};
 ghost use lib.ListN.{length};
 ghost use Rattle.net.specs.Checks.{FewPassed};
 ghost use Rattle.net.specs.Steps.{Rooms, LineTaken, AllTaken};
+ghost use Rattle.net.specs.Filled.{ReadBehind};
+ghost use Rattle.net.specs.TableSteps.{tablesOf};
 
 const LINE_FEED: u8 = b'\n';
 
@@ -59,4 +66,33 @@ pub fn read_lines(text: &[u8], types: &mut [u32], rows: &mut [u32], due: &mut [i
         }
     }
     finish(rows, n)
+}
+
+// A text read into areas of one's own, and from there into the lent ones where nothing is refused.
+pub fn read_into(
+    text: &[u8],
+    type_words: &mut [u32],
+    row_words: &mut [u32],
+    times: &mut [i64],
+    types: &mut [u32],
+    rows: &mut [u32],
+    due: &mut [i64],
+) -> Reading
+    requires { ⌜ Rooms (now «type_words») (now «row_words») (now times) × Rooms (now types) (now rows) (now due) ⌝ }
+    ensures { λ r. ⌜ ReadBehind (now (text .entry)) (tablesOf (now (types .entry)) (now (rows .entry)) (now (due .entry))) r (tablesOf (now (types .exit)) (now (rows .exit)) (now (due .exit))) ⌝ }
+{
+    match read_lines(text, type_words, row_words, times) {
+        Taking::Refused(r) => Reading::Refused(r),
+        Taking::Taken(n) => {
+            let type_count = n.types;
+            let row_count = n.rows;
+            copy_words(type_words, types, TYPE_WORDS * type_count);
+            copy_words(row_words, rows, ROW_WORDS * row_count);
+            copy_times(times, due, row_count);
+            Reading::Read {
+                types: type_count as u32,
+                rows: row_count as u32,
+            }
+        }
+    }
 }
