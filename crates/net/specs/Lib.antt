@@ -16,3 +16,5 @@ pub mod Taking
 pub mod BelowLaws
 pub mod ReadLaws
 pub mod Filled
+pub mod TableLaws
+pub mod RowLaws

@@ -1,74 +1,93 @@
+-- `net::tables::take_types` meets its contract. The loop's invariant: the types before i have passed. Assumes nothing.
+use Prim.Native.Nat.{ℕ, _+_, _≤_, _<_, _-_, min}
+use mathlib.Core.Path.{_≡_, refl, sym, ap, _∙_}
+use mathlib.Core.List.{List, []}
+use native.Mathlib.Omega.{arith}
+use lib.IntN.{ℤ}
+use lib.ListN.{length}
+use Rattle.rules.specs.Tables.{from, typeEntry}
+use Rattle.net.specs.declared.Line.the-variants.{Repeater as TypeLine}
+use Rattle.net.specs.Checks.{FewPassed, placeAt}
+use Rattle.net.specs.Held.{withType}
+use Rattle.net.specs.TableSteps.{tablesOf, Through}
+use Rattle.net.specs.Taking.{line-room}
+use Rattle.net.specs.ReadLaws.{holds-nothing}
+use Rattle.net.specs.RowLaws.{type-grown, type-line-is}
+use Rattle.net.specs.TableLaws.{through-none, take-refused, take-more, take-beyond, take-all}
+use borrow.Author.Needs.{needs}
 use Rattle.net.proofs.tables.take_types.Statement.{statement}
 use Rattle.net.proofs.tables.take_types.Tie as tie
-use Rattle.net.proofs.tables.take_types.Reads as reads
-use Rattle.net.proofs.tables.take_types.Lts as lts
-use Rattle.net.proofs.areas.passed_with.Reads as passed-with-reads
-use Rattle.net.proofs.checks.check_type.Reads as check-type-reads
-use Rattle.net.proofs.checks.place_of.Reads as place-of-reads
-use Rattle.net.proofs.entries.type_at.Reads as type-at-reads
-use Rattle.net.proofs.tables.fewer.Reads as fewer-reads
 
 abbrev Inv-loop : tie.InvT-loop
-Inv-loop types count n₀ i₀ end n i = ?
+Inv-loop types count n₀ i₀ end n i = ((i ≤ end) × (end ≡ min count 4)) × ((FewPassed n × ((n .rows ≡ 0) × (n .types ≡ i))) × ((rows : List ℕ) (due : List ℤ) → Through (tablesOf types rows due) [] (from (typeEntry (tablesOf types rows due)) 0 i) n))
 
 abbrev μ-loop : tie.MeasureT-loop
-μ-loop types count n₀ i₀ end n i = ?
+μ-loop types count n₀ i₀ end n i = end - i
 
--- src/tables.rt:43:9
 fewer-requires : tie.Need-fewer-requires Inv-loop μ-loop
-fewer-requires c κs = ?
+fewer-requires c κs = tt
 
--- src/tables.rt:44:5
 loop-holds : tie.Need-loop-holds Inv-loop μ-loop
-loop-holds c = ?
+unfolding from
+loop-holds c = ((omega arith, c .fewer .ensures), ((record { types = omega arith; rows = omega arith; sites = omega arith }, (refl, refl)), λ rows due. through-none (tablesOf (c .before .before .args .types .now) rows due) [] _ (holds-nothing (c .before .before .args .types .now) rows due)))
 
--- src/tables.rt:45:13
 type-at-requires : tie.Need-type-at-requires Inv-loop μ-loop
-type-at-requires c κs = ?
+type-at-requires c κs = omega arith
 
--- src/tables.rt:46:15
 check-type-requires : tie.Need-check-type-requires Inv-loop μ-loop
-check-type-requires c κs = ?
+check-type-requires c κs = c .before .before .loop .inv .1 .0 .0
 
--- src/tables.rt:47:31
 enum-known-r : tie.Need-enum-known-r Inv-loop μ-loop
-enum-known-r c = ?
+enum-known-r c = search needs
 
--- src/tables.rt:47:37
 returns : tie.Need-returns Inv-loop μ-loop
-returns c = ?
+returns c =
+    let l = c .before .before .before .before .before .before .loop in
+    let ts = c .before .before .before .before .before .before .before .before .before .args .types .now in
+    (tt, λ rows due. take-refused (tablesOf ts rows due) (typeEntry (tablesOf ts rows due)) [] (l .i) (l .n) (l .inv .1 .1 rows due) (placeAt (l .n)) (TypeLine (c .before .before .before .before .type-at .result)) (c .before .before .before .check-type .result) refl
+    (type-line-is ts rows due (l .i) (placeAt (l .n)) (c .before .before .before .before .type-at .result) (c .before .before .before .before .type-at .ensures)) (c .before .before .before .check-type .ensures) 4 (c .before .before .before .before .before .before .before .before .before .args .count) (c .before .r .given .0 .0) (omega arith) (c .before .r .given .1))
 
--- src/tables.rt:49:36
 enum-told : tie.Need-enum-told Inv-loop μ-loop
-enum-told c = ?
+enum-told c = search needs
 
--- src/tables.rt:49:17
 passed-with-requires : tie.Need-passed-with-requires Inv-loop μ-loop
-passed-with-requires c κs = ?
+passed-with-requires c κs = c .before .before .before .before .before .loop .inv .1 .0 .0
 
--- src/tables.rt:50:17
 add-i : tie.Need-add-i Inv-loop μ-loop
-add-i c = ?
+add-i c = omega arith
 
--- src/tables.rt:44:5
 loop-less : tie.Need-loop-less Inv-loop μ-loop
-loop-less c = ?
+loop-less c = omega arith
 
--- src/tables.rt:44:5
 loop-again : tie.Need-loop-again Inv-loop μ-loop
-loop-again c = ?
+loop-again c =
+    let l = c .before .before .before .before .before .before .loop in
+    let ts = c .before .before .before .before .before .before .before .before .before .args .types .now in
+    let t = c .before .before .before .before .type-at .result in
+    let m-is = c .passed-with .ensures in
+    let few = line-room [] (l .n) (TypeLine t) (c .before .before .before .check-type .result) (l .inv .1 .0 .0) (c .before .before .before .check-type .ensures) (c .before .enum-told .given .1) .1 in
+    ((omega arith, l .inv .0 .1),
+    ((rw m-is few, (rw m-is (l .inv .1 .0 .1 .0), rw m-is (omega (arith, l .inv .1 .0 .1 .1)))),
+    λ rows due. take-more (tablesOf ts rows due) (typeEntry (tablesOf ts rows due)) [] (l .i) (l .n) (l .inv .1 .1 rows due) (placeAt (l .n)) (TypeLine t) (c .before .before .before .check-type .result) refl
+    (type-line-is ts rows due (l .i) (placeAt (l .n)) t (c .before .before .before .before .type-at .ensures)) (c .before .before .before .check-type .ensures) (c .passed-with .result) (c .before .enum-told .given .1)
+    (type-grown ts rows due (l .n) (l .i) t (l .inv .1 .0 .1 .1) (c .before .before .before .before .type-at .ensures) (omega arith)) m-is))
 
--- src/tables.rt:55:46
 place-of-requires : tie.Need-place-of-requires Inv-loop μ-loop
-place-of-requires c κs = ?
+place-of-requires c κs = c .before .before .loop .inv .1 .0 .0
 
--- src/tables.rt:55:9
 returns-2 : tie.Need-returns-2 Inv-loop μ-loop
-returns-2 c = ?
+returns-2 c =
+    let l = c .before .before .before .loop in
+    let ts = c .before .before .before .before .before .before .args .types .now in
+    let all : l .i ≡ min (c .before .before .before .before .before .before .args .count) 4 = omega (arith, l .inv .0 .0, l .inv .0 .1, c .before .before .loop-test .left) in
+    (tt, λ rows due. take-beyond (tablesOf ts rows due) (typeEntry (tablesOf ts rows due)) [] 4 (c .before .before .before .before .before .before .args .count) (l .i) (l .n) (l .inv .1 .1 rows due) all (c .place-of .result) (c .place-of .ensures) (c .before .if1 .taken))
 
--- src/tables.rt:32:1
 returns-3 : tie.Need-returns-3 Inv-loop μ-loop
-returns-3 c = ?
+returns-3 c =
+    let l = c .before .before .loop in
+    let ts = c .before .before .before .before .before .args .types .now in
+    let all : l .i ≡ min (c .before .before .before .before .before .args .count) 4 = omega (arith, l .inv .0 .0, l .inv .0 .1, c .before .loop-test .left) in
+    ((l .inv .1 .0 .0, l .inv .1 .0 .1 .0), λ rows due. take-all (tablesOf ts rows due) (typeEntry (tablesOf ts rows due)) [] 4 (c .before .before .before .before .before .args .count) (l .i) (l .n) (l .inv .1 .1 rows due) all (c .if1 .left))
 
 pub take-types-spec : {M : Type 1} → statement M
 take-types-spec =
