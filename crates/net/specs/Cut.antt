@@ -124,8 +124,14 @@ cut-in (sink p r c s n z) e =
     let w = wire-in p r c s (or-left wire (ltb mostFemtofarads n || times) e) in
     let e₁ = or-right wire (ltb mostFemtofarads n || times) e in
     let e₂ = or-right (ltb mostFemtofarads n) times e₁ in
-    rw (word-kept mostParent p (omega arith) (w .parent-in), word-kept mostOhms r (omega arith) (w .resistance-in), word-kept mostFemtofarads c (omega arith) (w .capacitance-in), word-kept mostSite s (omega arith) (w .site-in),
-    word-kept mostFemtofarads n (omega arith) (or-left (ltb mostFemtofarads n) times e₁), time-kept z (or-left (ltZ z earliestDue) (ltZ latestDue z) e₂) (or-right (ltZ z earliestDue) (ltZ latestDue z) e₂))
+    rw (
+      word-kept mostParent p (omega arith) (w .parent-in),
+      word-kept mostOhms r (omega arith) (w .resistance-in),
+      word-kept mostFemtofarads c (omega arith) (w .capacitance-in),
+      word-kept mostSite s (omega arith) (w .site-in),
+      word-kept mostFemtofarads n (omega arith) (or-left (ltb mostFemtofarads n) times e₁),
+      time-kept z (or-left (ltZ z earliestDue) (ltZ latestDue z) e₂) (or-right (ltZ z earliestDue) (ltZ latestDue z) e₂),
+    )
 cut-in malformed e = refl
 cut-in beyond e = refl
 
@@ -139,7 +145,7 @@ cut-out before e t =
     let f = misplaced (some? (rowsOf before)) e in
     let line = length before + 1 in
     let a : lineRefusal before (capped e) ≡ firstOf f true (tooMany before (capped e)) (orphan before (capped e)) line =
-        rw (misplaced-same (some? (rowsOf before)) e, out-same e, t) at (line-refusal-is before (capped e)) in
+    rw (misplaced-same (some? (rowsOf before)) e, out-same e, t) at (line-refusal-is before (capped e)) in
     let b : lineRefusal before e ≡ firstOf f true (tooMany before e) (orphan before e) line = rw t at (line-refusal-is before e) in
     a ∙ out-alike f (tooMany before (capped e)) (tooMany before e) (orphan before (capped e)) (orphan before e) line ∙ sym b
 

@@ -58,9 +58,11 @@ module _ (es : List Entry) (tw rw′ : List ℕ) (dw : List ℤ) (n : Passed) (h
       → tablesOf types′ rows′ due′ ≡ filled es (tablesOf types rows due)
   unfolding filled
   filled-is types types′ rows rows′ due due′ a b c =
-      rw (filled-area (typeTable (typesOf es)) types tw types′ (3 * n .types) (h .type-words) (omega (arith, h .few .types, room .types-room)) a,
-      filled-area (rowTable (rowsOf es)) rows rw′ rows′ (6 * n .rows) (h .row-words) (omega (arith, h .few .rows, room .rows-room)) b,
-      filled-area (dueTable (rowsOf es)) due dw due′ (n .rows) (h .due-times) (omega (arith, h .few .rows, room .due-room)) c)
+      rw (
+        filled-area (typeTable (typesOf es)) types tw types′ (3 * n .types) (h .type-words) (omega (arith, h .few .types, room .types-room)) a,
+        filled-area (rowTable (rowsOf es)) rows rw′ rows′ (6 * n .rows) (h .row-words) (omega (arith, h .few .rows, room .rows-room)) b,
+        filled-area (dueTable (rowsOf es)) due dw due′ (n .rows) (h .due-times) (omega (arith, h .few .rows, room .due-room)) c,
+      )
 
 pub taken-behind : (text : List ℕ) (r : Taking) (tw rw′ : List ℕ) (dw : List ℤ) (n : Passed) (types types′ rows rows′ : List ℕ) (due due′ : List ℤ)
     → AllTaken text r tw rw′ dw → r ≡ Taken n → Rooms tw rw′ dw

@@ -60,7 +60,7 @@ module _ (n : Passed) (line : Line) where
   pub roomy-sink : (w : Wire) (p : Pin) → line ≡ SinkLine w p → Roomy n line → n .rows < 256
   roomy-sink w p e h = rw e at h
 
--- ---- how the areas have grown
+  -- ---- how the areas have grown
   pub grown-type : (t : Repeater) → line ≡ TypeLine t → (types types′ rows : List ℕ) (due : List ℤ)
       → take (3 * (n .types + 1)) types′ ≡ take (3 * n .types) types ++ wordsOfType t → Grown n line types types′ rows rows due due
   grown-type t e types types′ rows due g =

@@ -18,3 +18,4 @@ pub mod ReadLaws
 pub mod Filled
 pub mod TableLaws
 pub mod RowLaws
+pub mod CheckLaws

@@ -60,7 +60,7 @@ module _ (text : List ℕ) (at to : ℕ) (inside : at < length text) (to-is : to
       let k : lead lineFeed s ≡ to - at = omega arith in
       let more = parted-more lineFeed s (omega (arith, length-drop at text)) in
       let behind : drop (suc (lead lineFeed s)) s ≡ drop (to + 1) text =
-          drop-drop (suc (lead lineFeed s)) at text ∙ ap (λ (j : ℕ). drop j text) (next k) in
+      drop-drop (suc (lead lineFeed s)) at text ∙ ap (λ (j : ℕ). drop j text) (next k) in
       ap linesOf more ∙ lines-shape (stretch lineFeed s) (parted lineFeed (drop (suc (lead lineFeed s)) s)) (drop (suc (lead lineFeed s)) s) refl
       ∙ rw (behind, k)
     where

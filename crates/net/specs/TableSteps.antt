@@ -6,7 +6,7 @@ use Prim.Native.Nat.{ℕ, _≤_}
 use lib.IntN.{ℤ}
 use lib.ListN.{length}
 use Rattle.rules.specs.Entries.{Entry}
-use Rattle.rules.specs.Tables.{Tables, typeEntry, rowEntry, from, counted}
+use Rattle.rules.specs.Tables.{Tables, Counts, typeEntry, rowEntry, from, counted}
 use Rattle.rules.specs.Refusals.{firstRefusal}
 use Rattle.net.specs.declared.Passed.{Passed}
 use Rattle.net.specs.declared.Taking.{Taking}
@@ -17,6 +17,9 @@ use Rattle.net.specs.Steps.{AllBehind}
 
 abbrev pub tablesOf : (types rows : List ℕ) (due : List ℤ) → Tables
 tablesOf types rows due = record { types = types; rows = rows; due = due }
+
+abbrev pub countsOf : (types rows : ℕ) → Counts
+countsOf types rows = record { types = types; rows = rows }
 
 -- the entries of the types, and of the rows
 abbrev pub typeEntries : Tables → (count : ℕ) → List Entry

@@ -1,14 +1,14 @@
 // Areas of words: an entry stored behind those that have passed, and an area's start copied.
+use super::Line;
+use super::Passed;
+use super::ROW_WORDS;
+use super::Repeater;
+use super::TYPE_WORDS;
+use super::Wire;
 use rules::Femtofarad;
 use rules::Femtosecond;
 use rules::Ohm;
 use rules::Pin;
-use super::Line;
-use super::Passed;
-use super::Repeater;
-use super::ROW_WORDS;
-use super::TYPE_WORDS;
-use super::Wire;
 ghost use mathlib.Core.Path.{_≡_};
 ghost use mathlib.Core.List.{[], _∷_, _++_};
 ghost use Prim.Native.Nat.{_+_, _*_, _≤_, _<_};

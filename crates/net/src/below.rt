@@ -1,10 +1,10 @@
 // After the last line: the driver is there, and each row that is no sink has a row below it.
-use rules::Refusal;
 use super::Passed;
 use super::ROW_WORDS;
 use super::ROWS_ROOM;
 use super::Taking;
 use super::checks::place_of;
+use rules::Refusal;
 ghost use mathlib.Core.Path.{_≡_};
 ghost use Prim.Native.Nat.{_+_, _*_, _≤_, _<_};
 ghost use lib.ListN.{length, replicate};

@@ -1,13 +1,13 @@
 // The checks of one line after those that have passed, shared by texts and tables: in one line 1, 2, 3, 4.
+use super::Line;
+use super::Passed;
+use super::ROW_WORDS;
+use super::Repeater;
+use super::Wire;
 use rules::Checking;
 use rules::Ohm;
 use rules::Pin;
 use rules::Refusal;
-use super::Line;
-use super::Passed;
-use super::Repeater;
-use super::ROW_WORDS;
-use super::Wire;
 ghost use mathlib.Core.Path.{_≡_};
 ghost use mathlib.Core.Bool.{false, _||_};
 ghost use Prim.Native.Nat.{_+_, _*_, _≤_, _<_};
@@ -18,14 +18,23 @@ ghost use Rattle.rules.specs.Refusals.{wireOut};
 ghost use Rattle.net.specs.Checks.{checking, firstOf, typeOut, pinOut, manyRows, noParentIn, placeAt, checkOf, FewPassed};
 
 const MOST_OHMS: u32 = 100_000;
+
 const MOST_FEMTOFARADS: u32 = 100_000;
+
 const MOST_OWN: i64 = 1_000_000_000;
+
 const EARLIEST_DUE: i64 = -1_000_000_000_000;
+
 const LATEST_DUE: i64 = 1_000_000_000_000;
+
 const MOST_PARENT: u32 = 255;
+
 const MOST_SITE: u32 = 1;
+
 const TYPES_ROOM: usize = 4;
+
 const ROWS_ROOM: usize = 256;
+
 const SITES_ROOM: usize = 64;
 
 // The number of the line behind those that have passed.

@@ -1,4 +1,10 @@
 // The entries of a table by value: a type, a row, and the line that an entry would have as text.
+use super::Line;
+use super::ROW_WORDS;
+use super::Repeater;
+use super::TYPE_WORDS;
+use super::Wire;
+use super::lines::repeater;
 use rules::Femtofarad;
 use rules::Femtosecond;
 use rules::Kind;
@@ -6,12 +12,6 @@ use rules::Ohm;
 use rules::Pin;
 use rules::Refusal;
 use rules::Row;
-use super::Line;
-use super::Repeater;
-use super::ROW_WORDS;
-use super::TYPE_WORDS;
-use super::Wire;
-use super::lines::repeater;
 ghost use mathlib.Core.Path.{_≡_};
 ghost use Prim.Native.Nat.{_+_, _*_, _≤_, _<_};
 ghost use lib.ListN.{length, getD};

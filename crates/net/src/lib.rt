@@ -8,26 +8,30 @@ use rules::Ohm;
 use rules::Pin;
 use rules::Reading;
 use rules::Refusal;
+use tables::take_net;
 ghost use mathlib.Core.Path.{_≡_};
 ghost use mathlib.Core.Bool.{_||_};
 ghost use lib.Dec.{ltb};
-ghost use Rattle.rules.specs.Promises.{ReadPromise};
-ghost use Rattle.net.specs.TableSteps.{tablesOf};
+ghost use Rattle.rules.specs.Promises.{ReadPromise, CheckPromise, tablesRefusal};
+ghost use Rattle.net.specs.Checks.{checking};
+ghost use Rattle.net.specs.TableSteps.{tablesOf, countsOf};
 
-mod lines;
-mod checks;
-pub mod entries;
 mod areas;
 mod below;
+mod checks;
+pub mod entries;
+mod lines;
 mod reads;
 mod tables;
 
 // Words of a type and of a row in the tables.
 pub const TYPE_WORDS: usize = 3;
+
 pub const ROW_WORDS: usize = 6;
 
 // Room: types and rows.
 pub const TYPES_ROOM: usize = 4;
+
 pub const ROWS_ROOM: usize = 256;
 
 // A type of repeater.
@@ -96,5 +100,46 @@ pub fn read_net(text: &[u8], types: &mut [u32], rows: &mut [u32], due: &mut [i64
     let mut type_words = [0u32; 12];
     let mut row_words = [0u32; 1536];
     let mut times = [0i64; 256];
-    read_into(text, &mut type_words[..], &mut row_words[..], &mut times[..], types, rows, due)
+    read_into(
+        text,
+        &mut type_words[..],
+        &mut row_words[..],
+        &mut times[..],
+        types,
+        rows,
+        due,
+    )
+}
+
+// The refusal of a net given as tables: 7 also where an area of the caller's own is short, then entry by entry.
+pub fn check_tables(
+    short: bool,
+    types: &[u32],
+    rows: &[u32],
+    due: &[i64],
+    type_count: usize,
+    row_count: usize,
+) -> Checking
+    ensures { λ r. ⌜ r ≡ checking (tablesRefusal short (tablesOf (now (types .entry)) (now (rows .entry)) (now (due .entry))) (countsOf «type_count» «row_count»)) ⌝ }
+{
+    if short_areas(types.len(), rows.len(), due.len()) {
+        return Checking::Refused(Refusal::Short);
+    }
+    if short {
+        return Checking::Refused(Refusal::Short);
+    }
+    take_net(types, rows, due, type_count, row_count)
+}
+
+// A net given as tables, checked.
+pub fn check_net(
+    types: &[u32],
+    rows: &[u32],
+    due: &[i64],
+    type_count: usize,
+    row_count: usize,
+) -> Checking
+    ensures { λ r. ⌜ CheckPromise (tablesOf (now (types .entry)) (now (rows .entry)) (now (due .entry))) (countsOf «type_count» «row_count») r ⌝ }
+{
+    check_tables(false, types, rows, due, type_count, row_count)
 }

@@ -1,4 +1,7 @@
 // A reader for each kind of line. A number too large for any range is cut to one that is still out of range.
+use super::Line;
+use super::Repeater;
+use super::Wire;
 use rules::Femtofarad;
 use rules::Femtosecond;
 use rules::Ohm;
@@ -9,9 +12,6 @@ use text::SignedField;
 use text::field_at;
 use text::number_at;
 use text::signed_at;
-use super::Line;
-use super::Repeater;
-use super::Wire;
 ghost use mathlib.Core.Path.{_≡_};
 ghost use Prim.Native.Nat.{_+_, _≤_, _<_};
 ghost use lib.ListN.{length};

@@ -1,8 +1,4 @@
 // A text, line by line, into areas that hold what has passed.
-use rules::Checking;
-use rules::Reading;
-use rules::Refusal;
-use text::stretch_end;
 use super::Passed;
 use super::ROW_WORDS;
 use super::TYPE_WORDS;
@@ -15,6 +11,10 @@ use super::below::finish;
 use super::checks::check_line;
 use super::checks::place_of;
 use super::lines::read_line;
+use rules::Checking;
+use rules::Reading;
+use rules::Refusal;
+use text::stretch_end;
 ghost use mathlib.Core.Path.{_≡_};
 ghost use Prim.Native.Nat.{_+_, _*_, _≤_, _<_};
 ghost use lib.ListN.{length};

@@ -1,6 +1,4 @@
 // A net given as tables, entry by entry.
-use rules::Checking;
-use rules::Refusal;
 use super::Line;
 use super::Passed;
 use super::ROWS_ROOM;
@@ -13,11 +11,16 @@ use super::checks::check_type;
 use super::checks::place_of;
 use super::entries::row_line;
 use super::entries::type_at;
+use rules::Checking;
+use rules::Refusal;
 ghost use mathlib.Core.Path.{_≡_};
 ghost use Prim.Native.Nat.{_≤_, min};
 ghost use lib.ListN.{length};
-ghost use Rattle.net.specs.Checks.{FewPassed};
-ghost use Rattle.net.specs.TableSteps.{FewTaken, TypesTaken, RowsTaken};
+ghost use Rattle.rules.specs.Tables.{tableEntries};
+ghost use Rattle.rules.specs.Refusals.{refusalOf};
+ghost use Rattle.net.specs.Checks.{FewPassed, checking};
+ghost use Rattle.net.specs.Steps.{Rooms};
+ghost use Rattle.net.specs.TableSteps.{tablesOf, countsOf, FewTaken, TypesTaken, RowsTaken};
 
 fn fewer(count: usize, room: usize) -> usize
     ensures { λ r. ⌜ r ≡ min count room ⌝ }
@@ -79,4 +82,24 @@ pub fn take_rows(rows: &[u32], due: &[i64], n: Passed, count: usize) -> Taking
         return Taking::Refused(Refusal::Room(place_of(m)));
     }
     finish(rows, m)
+}
+
+// All entries of the tables, types first.
+pub fn take_net(
+    types: &[u32],
+    rows: &[u32],
+    due: &[i64],
+    type_count: usize,
+    row_count: usize,
+) -> Checking
+    requires { ⌜ Rooms (now types) (now rows) (now due) ⌝ }
+    ensures { λ r. ⌜ r ≡ checking (refusalOf (tableEntries (tablesOf (now (types .entry)) (now (rows .entry)) (now (due .entry))) (countsOf «type_count» «row_count»))) ⌝ }
+{
+    match take_types(types, type_count) {
+        Taking::Refused(r) => Checking::Refused(r),
+        Taking::Taken(n) => match take_rows(rows, due, n, row_count) {
+            Taking::Refused(r) => Checking::Refused(r),
+            Taking::Taken(_) => Checking::Accepted,
+        },
+    }
 }

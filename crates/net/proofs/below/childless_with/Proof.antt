@@ -57,10 +57,13 @@ loop-again c =
     let a = c .before .before .before .before .before .before .before .before .before .before .before .before .args in
     let i = l .i - 1 in
     let back : l .i ≡ i + 1 = omega arith in
-    let inside : i < a .count = omega arith in
-    ((omega arith, rw (c .before .before .mark .ensures) (marked-256 (getD (a .rows .now) (6 * i + 1) 0) (l .below) (l .inv .0 .1))),
-    (rw (c .before .before .mark .ensures, c .before .before .before .before .before .found-with .ensures) (from-back (a .rows .now) (a .count) (l .i) i (l .below) (l .found) back (l .inv .1 .0) (c .before .before .before .before .before .before .before .before .before .before .before .before .pre .0 .0) inside),
-    rw (c .before .before .before .before .before .found-with .ensures) (found-in (getD (a .rows .now) (6 * i) 0) (getD (l .below) i 0) i (a .count) (l .found) inside (l .inv .1 .1))))
+    let inside : i < a .count = omega arith in (
+      (omega arith, rw (c .before .before .mark .ensures) (marked-256 (getD (a .rows .now) (6 * i + 1) 0) (l .below) (l .inv .0 .1))),
+      (
+        rw (c .before .before .mark .ensures, c .before .before .before .before .before .found-with .ensures) (from-back (a .rows .now) (a .count) (l .i) i (l .below) (l .found) back (l .inv .1 .0) (c .before .before .before .before .before .before .before .before .before .before .before .before .pre .0 .0) inside),
+        rw (c .before .before .before .before .before .found-with .ensures) (found-in (getD (a .rows .now) (6 * i) 0) (getD (l .below) i 0) i (a .count) (l .found) inside (l .inv .1 .1)),
+      ),
+    )
 
 same-length : tie.Need-same-length Inv-loop μ-loop
 same-length c = omega (arith, c .before .loop .inv .0 .1, ap length (c .before .before .before .before .pre .1), length-replicate {A = ℕ} 256 0)

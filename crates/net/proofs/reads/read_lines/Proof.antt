@@ -87,10 +87,13 @@ loop-again c =
     let l = c .before .before .before .before .before .before .before .before .before .before .before .before .before .before .before .before .loop in
     let a = c .before .before .before .before .before .before .before .before .before .before .before .before .before .before .before .before .before .before .before .before .args in
     let to = c .before .before .before .before .before .before .before .before .before .before .before .before .before .before .stretch-end .result in
-    let ended : to < length (a .text .now) = omega (arith, c .before .before .before .before .before .before .before .before .before .before .before .before .before .if1 .left, c .before .before .before .before .before .before .before .before .before .before .before .before .before .before .stretch-end .ensures, lead-le lineFeed (drop (l .at) (a .text .now)), length-drop (l .at) (a .text .now)) in
-    ((omega arith, rooms-kept (l .types) _ (l .rows) _ (l .due) _ (l .inv .0 .1) (c .before .before .before .before .before .before .before .types .given) (c .before .before .before .before .before .rows .given) (c .before .before .before .due .given)),
-    ((c .before .before .before .before .before .before .before .types .given ∙ l .inv .1 .0 .0, (c .before .before .before .before .before .rows .given ∙ l .inv .1 .0 .1 .0, c .before .before .before .due .given ∙ l .inv .1 .0 .1 .1)),
-    reach-taken (a .text .now) (l .at) to (l .types) (l .rows) (l .due) (l .n) (l .inv .1 .1) (c .before .before .before .before .before .before .before .before .before .before .before .before .before .before .before .loop-test .taken) (c .before .before .before .before .before .before .before .before .before .before .before .before .before .before .stretch-end .ensures) _ _ _ (c .before .before .before .before .before .before .before .before .take-line .result) (c .before .before .before .before .before .before .before .before .take-line .ensures) ended (c .before .m .given .0 .0) (c .before .m .given .1)))
+    let ended : to < length (a .text .now) = omega (arith, c .before .before .before .before .before .before .before .before .before .before .before .before .before .if1 .left, c .before .before .before .before .before .before .before .before .before .before .before .before .before .before .stretch-end .ensures, lead-le lineFeed (drop (l .at) (a .text .now)), length-drop (l .at) (a .text .now)) in (
+      (omega arith, rooms-kept (l .types) _ (l .rows) _ (l .due) _ (l .inv .0 .1) (c .before .before .before .before .before .before .before .types .given) (c .before .before .before .before .before .rows .given) (c .before .before .before .due .given)),
+      (
+        (c .before .before .before .before .before .before .before .types .given ∙ l .inv .1 .0 .0, (c .before .before .before .before .before .rows .given ∙ l .inv .1 .0 .1 .0, c .before .before .before .due .given ∙ l .inv .1 .0 .1 .1)),
+        reach-taken (a .text .now) (l .at) to (l .types) (l .rows) (l .due) (l .n) (l .inv .1 .1) (c .before .before .before .before .before .before .before .before .before .before .before .before .before .before .before .loop-test .taken) (c .before .before .before .before .before .before .before .before .before .before .before .before .before .before .stretch-end .ensures) _ _ _ (c .before .before .before .before .before .before .before .before .take-line .result) (c .before .before .before .before .before .before .before .before .take-line .ensures) ended (c .before .m .given .0 .0) (c .before .m .given .1),
+      ),
+    )
 
 finish-requires : tie.Need-finish-requires Inv-loop μ-loop
 finish-requires c κs = (c .before .before .loop .inv .1 .1 .held .few, omega (arith, c .before .before .loop .inv .1 .1 .held .few .rows, c .before .before .loop .inv .0 .1 .rows-room))

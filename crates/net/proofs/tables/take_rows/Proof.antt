@@ -70,12 +70,15 @@ loop-again c =
     let line = c .before .before .before .before .row-line .result in
     let m-is = c .passed-with .ensures in
     let few = line-room rs (l .m) line (c .before .before .before .check-line .result) (l .inv .1 .0 .0) (c .before .before .before .check-line .ensures) (c .before .enum-told .given .1) .1 in
-    let more = row-counted rs ds (l .m) (l .i) (c .before .before .before .before .before .place-of .result) line (c .before .before .before .check-line .result) (c .before .before .before .before .row-line .ensures) (c .before .before .before .check-line .ensures) (c .before .enum-told .given .1) in
-    ((omega arith, l .inv .0 .1),
-    ((rw m-is few, rw m-is (omega (arith, more, l .inv .1 .0 .1))),
-    λ types before h. take-more (tablesOf types rs ds) (rowEntry (tablesOf types rs ds)) before (l .i) (l .m) (l .inv .1 .1 types before h) (c .before .before .before .before .before .place-of .result) line (c .before .before .before .check-line .result) (c .before .before .before .before .before .place-of .ensures)
-    (c .before .before .before .before .row-line .ensures ∙ ap (lineFor (c .before .before .before .before .before .place-of .result)) (row-entry-is types rs ds (l .i))) (c .before .before .before .check-line .ensures) (c .passed-with .result) (c .before .enum-told .given .1)
-    (row-grown types rs ds (l .m) (l .i) (c .before .before .before .before .before .place-of .result) line (c .before .before .before .check-line .result) (l .inv .1 .0 .1) (c .before .before .before .before .row-line .ensures) (c .before .before .before .check-line .ensures) (c .before .enum-told .given .1) (omega (arith, c .before .before .before .before .before .before .before .before .before .before .pre .1 .0)) (omega (arith, c .before .before .before .before .before .before .before .before .before .before .pre .1 .1))) m-is))
+    let more = row-counted rs ds (l .m) (l .i) (c .before .before .before .before .before .place-of .result) line (c .before .before .before .check-line .result) (c .before .before .before .before .row-line .ensures) (c .before .before .before .check-line .ensures) (c .before .enum-told .given .1) in (
+      (omega arith, l .inv .0 .1),
+      (
+        (rw m-is few, rw m-is (omega (arith, more, l .inv .1 .0 .1))),
+        λ types before h. take-more (tablesOf types rs ds) (rowEntry (tablesOf types rs ds)) before (l .i) (l .m) (l .inv .1 .1 types before h) (c .before .before .before .before .before .place-of .result) line (c .before .before .before .check-line .result) (c .before .before .before .before .before .place-of .ensures)
+            (c .before .before .before .before .row-line .ensures ∙ ap (lineFor (c .before .before .before .before .before .place-of .result)) (row-entry-is types rs ds (l .i))) (c .before .before .before .check-line .ensures) (c .passed-with .result) (c .before .enum-told .given .1)
+            (row-grown types rs ds (l .m) (l .i) (c .before .before .before .before .before .place-of .result) line (c .before .before .before .check-line .result) (l .inv .1 .0 .1) (c .before .before .before .before .row-line .ensures) (c .before .before .before .check-line .ensures) (c .before .enum-told .given .1) (omega (arith, c .before .before .before .before .before .before .before .before .before .before .pre .1 .0)) (omega (arith, c .before .before .before .before .before .before .before .before .before .before .pre .1 .1))) m-is,
+      ),
+    )
 
 place-of-requires-2 : tie.Need-place-of-requires-2 Inv-loop μ-loop
 place-of-requires-2 c κs = c .before .before .loop .inv .1 .0 .0

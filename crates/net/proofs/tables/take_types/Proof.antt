@@ -43,9 +43,11 @@ enum-known-r c = search needs
 returns : tie.Need-returns Inv-loop μ-loop
 returns c =
     let l = c .before .before .before .before .before .before .loop in
-    let ts = c .before .before .before .before .before .before .before .before .before .args .types .now in
-    (tt, λ rows due. take-refused (tablesOf ts rows due) (typeEntry (tablesOf ts rows due)) [] (l .i) (l .n) (l .inv .1 .1 rows due) (placeAt (l .n)) (TypeLine (c .before .before .before .before .type-at .result)) (c .before .before .before .check-type .result) refl
-    (type-line-is ts rows due (l .i) (placeAt (l .n)) (c .before .before .before .before .type-at .result) (c .before .before .before .before .type-at .ensures)) (c .before .before .before .check-type .ensures) 4 (c .before .before .before .before .before .before .before .before .before .args .count) (c .before .r .given .0 .0) (omega arith) (c .before .r .given .1))
+    let ts = c .before .before .before .before .before .before .before .before .before .args .types .now in (
+      tt,
+      λ rows due. take-refused (tablesOf ts rows due) (typeEntry (tablesOf ts rows due)) [] (l .i) (l .n) (l .inv .1 .1 rows due) (placeAt (l .n)) (TypeLine (c .before .before .before .before .type-at .result)) (c .before .before .before .check-type .result) refl
+          (type-line-is ts rows due (l .i) (placeAt (l .n)) (c .before .before .before .before .type-at .result) (c .before .before .before .before .type-at .ensures)) (c .before .before .before .check-type .ensures) 4 (c .before .before .before .before .before .before .before .before .before .args .count) (c .before .r .given .0 .0) (omega arith) (c .before .r .given .1),
+    )
 
 enum-told : tie.Need-enum-told Inv-loop μ-loop
 enum-told c = search needs
@@ -65,12 +67,15 @@ loop-again c =
     let ts = c .before .before .before .before .before .before .before .before .before .args .types .now in
     let t = c .before .before .before .before .type-at .result in
     let m-is = c .passed-with .ensures in
-    let few = line-room [] (l .n) (TypeLine t) (c .before .before .before .check-type .result) (l .inv .1 .0 .0) (c .before .before .before .check-type .ensures) (c .before .enum-told .given .1) .1 in
-    ((omega arith, l .inv .0 .1),
-    ((rw m-is few, (rw m-is (l .inv .1 .0 .1 .0), rw m-is (omega (arith, l .inv .1 .0 .1 .1)))),
-    λ rows due. take-more (tablesOf ts rows due) (typeEntry (tablesOf ts rows due)) [] (l .i) (l .n) (l .inv .1 .1 rows due) (placeAt (l .n)) (TypeLine t) (c .before .before .before .check-type .result) refl
-    (type-line-is ts rows due (l .i) (placeAt (l .n)) t (c .before .before .before .before .type-at .ensures)) (c .before .before .before .check-type .ensures) (c .passed-with .result) (c .before .enum-told .given .1)
-    (type-grown ts rows due (l .n) (l .i) t (l .inv .1 .0 .1 .1) (c .before .before .before .before .type-at .ensures) (omega arith)) m-is))
+    let few = line-room [] (l .n) (TypeLine t) (c .before .before .before .check-type .result) (l .inv .1 .0 .0) (c .before .before .before .check-type .ensures) (c .before .enum-told .given .1) .1 in (
+      (omega arith, l .inv .0 .1),
+      (
+        (rw m-is few, (rw m-is (l .inv .1 .0 .1 .0), rw m-is (omega (arith, l .inv .1 .0 .1 .1)))),
+        λ rows due. take-more (tablesOf ts rows due) (typeEntry (tablesOf ts rows due)) [] (l .i) (l .n) (l .inv .1 .1 rows due) (placeAt (l .n)) (TypeLine t) (c .before .before .before .check-type .result) refl
+            (type-line-is ts rows due (l .i) (placeAt (l .n)) t (c .before .before .before .before .type-at .ensures)) (c .before .before .before .check-type .ensures) (c .passed-with .result) (c .before .enum-told .given .1)
+            (type-grown ts rows due (l .n) (l .i) t (l .inv .1 .0 .1 .1) (c .before .before .before .before .type-at .ensures) (omega arith)) m-is,
+      ),
+    )
 
 place-of-requires : tie.Need-place-of-requires Inv-loop μ-loop
 place-of-requires c κs = c .before .before .loop .inv .1 .0 .0
