@@ -2,7 +2,7 @@
 use mathlib.Core.Path.{_≡_, refl, sym, ap, _∙_}
 use mathlib.Core.Bool.{Bool, true, false, _||_, true≢false}
 use mathlib.Core.List.{List, [], _∷_}
-use mathlib.Core.Option.{Option, none, some}
+use mathlib.Core.Option.{Option, none, some, Option·some-ne-none}
 use Prim.Native.Nat.{ℕ, _*_, _≤_}
 use native.Mathlib.Omega.{arith}
 use lib.Dec.{ltb}
@@ -11,9 +11,11 @@ use lib.ListN.{length, getD}
 use borrow.Author.Tests.{ltb-false}
 use Rattle.rules.specs.declared.Checking.the-variants.{Accepted as Passes, Refused as Stops}
 use Rattle.rules.specs.declared.Refusal.{Refusal}
+use Rattle.rules.specs.declared.Refusal.the-variants.{Short}
 use Rattle.rules.specs.declared.Row.{Row}
 use Rattle.rules.specs.declared.Slacking.{Slacking}
 use Rattle.rules.specs.declared.Slacking.the-variants.{Refused}
+use Rattle.rules.specs.Lists.{orElse, when}
 use Rattle.rules.specs.Quantities.{_⊖_, typesRoom, rowsRoom}
 use Rattle.rules.specs.Entries.{Entry, typesOf, rowsOf}
 use Rattle.rules.specs.Tables.{Tables, Counts, typeWords, rowWords, shortTables, tableEntries}
@@ -31,17 +33,12 @@ use Rattle.laws.specs.Legality.{marks-legality}
 use Rattle.laws.specs.Tabled.{rowAt, rowsFrom, rows-length, repeatersFrom, repeaters-length, Tabled, tabled}
 use Rattle.laws.specs.Walk.{noRow, seenAt, atRow-seen}
 use Rattle.rows.specs.Links.{Standing, row-is}
+use Rattle.net.specs.Checks.{checking}
+use Rattle.net.specs.TableSteps.{tablesOf, countsOf}
 use Rattle.slack.specs.Hung.{seenAs, hungOf, slackHung}
 use Rattle.slack.specs.Ready.{Sound, hungAt}
 use Rattle.slack.specs.Sound.{hung-same, sound}
-use Rattle.slack.specs.Marked.{checkingOf, NetOf, Marking}
-
--- the lent areas, and the counts, of an entry
-abbrev pub tablesOf : (types rows : List ℕ) (due : List ℤ) → Tables
-tablesOf types rows due = record { types = types; rows = rows; due = due }
-
-abbrev pub countsOf : (types rows : ℕ) → Counts
-countsOf types rows = record { types = types; rows = rows }
+use Rattle.slack.specs.Marked.{NetOf, Marking}
 
 -- no area is shorter than its room, and no entry is refused
 pub record Given (types rows : List ℕ) (due : List ℤ) (count n : ℕ) (words : List ℕ) : Type 0 where
@@ -54,6 +51,10 @@ neither : (a b : Bool) → (a || b) ≡ false → (a ≡ false) × (b ≡ false)
 neither true b e = absurd (true≢false e)
 neither false b e = (refl, e)
 
+passed : (b : Bool) (rest : Option Refusal) → orElse (when b Short) rest ≡ none → (b ≡ false) × (rest ≡ none)
+passed true rest e = absurd (Option·some-ne-none Short e)
+passed false rest e = (refl, e)
+
 -- each area has its room
 record Long (types rows : List ℕ) (due : List ℤ) : Type 0 where
   types-room : typeWords * typesRoom ≤ length types
@@ -61,11 +62,11 @@ record Long (types rows : List ℕ) (due : List ℤ) : Type 0 where
   due-room : rowsRoom ≤ length due
 
 -- what a check that was made says of what is refused
-stops-is : {r : Refusal} (o : Option Refusal) → Stops r ≡ checkingOf o → o ≡ some r
+stops-is : {r : Refusal} (o : Option Refusal) → Stops r ≡ checking o → o ≡ some r
 stops-is none e = absurd (let z : _≡_ {A = ℕ} 0 1 = cc in omega arith)
 stops-is (some q) e = cc
 
-passes-is : (o : Option Refusal) → Passes ≡ checkingOf o → o ≡ none
+passes-is : (o : Option Refusal) → Passes ≡ checking o → o ≡ none
 passes-is none e = refl
 passes-is (some q) e = absurd (let z : _≡_ {A = ℕ} 0 1 = cc in omega arith)
 
@@ -128,12 +129,12 @@ module _ {types rows : List ℕ} {due : List ℤ} {count n : ℕ} {words : List 
   settles = rw (G .tables-long, G .words-long, G .accepted)
 
   -- refusal 6
-  pub promise-refused : {r : Refusal} → Stops r ≡ checkingOf (placementRefusal es (marks words)) → SlackPromise (tablesOf types rows due) (countsOf count n) words (Refused r)
+  pub promise-refused : {r : Refusal} → Stops r ≡ checking (placementRefusal es (marks words)) → SlackPromise (tablesOf types rows due) (countsOf count n) words (Refused r)
   unfolding SlackPromise slackFigures
   promise-refused e = rw (settles, stops-is (placementRefusal es (marks words)) e) refl
 
   -- no refusal 6
-  pub passes : Passes ≡ checkingOf (placementRefusal es (marks words)) → placementRefusal es (marks words) ≡ none
+  pub passes : Passes ≡ checking (placementRefusal es (marks words)) → placementRefusal es (marks words) ≡ none
   passes e = passes-is (placementRefusal es (marks words)) e
 
   module _ (h : placementRefusal es (marks words) ≡ none) where
@@ -157,3 +158,17 @@ module _ {types rows : List ℕ} {due : List ℤ} {count n : ℕ} {words : List 
     pub promise-timed : {answer : Slacking} → answer ≡ slackHung (rowAt rows due 0 .resistance .0) (hungAt rows due types words n 0) → SlackPromise (tablesOf types rows due) (countsOf count n) words answer
     unfolding SlackPromise slackFigures slackHung timing
     promise-timed e = rw (settles, h) (timing, rw (e, hung, ohms) refl, record { tree = tree .0; tree-is = tree .1; slack = slack-is (typesOf es) (marks words) (driverOhms (rowsOf es)) (tree .0); load = refl })
+
+-- ---- from the check of the tables
+-- what it refused
+pub promise-checked : (t : Tables) (n : Counts) (words : List ℕ) {r : Refusal} → Stops r ≡ checking (tablesRefusal (shortPlacement words) t n) → SlackPromise t n words (Refused r)
+unfolding SlackPromise slackRefusal slackFigures
+promise-checked t n words e = rw (stops-is (tablesRefusal (shortPlacement words) t n) e) refl
+
+-- what it accepted
+pub given-of : {types rows : List ℕ} {due : List ℤ} {count n : ℕ} {words : List ℕ} → Passes ≡ checking (tablesRefusal (shortPlacement words) (tablesOf types rows due) (countsOf count n)) → Given types rows due count n words
+unfolding tablesRefusal
+given-of {types} {rows} {due} {count} {n} {words} e =
+    let (b, a) = passed (shortTables (tablesOf types rows due) || shortPlacement words) (refusalOf (tableEntries (tablesOf types rows due) (countsOf count n))) (passes-is _ e) in
+    let (t, w) = neither (shortTables (tablesOf types rows due)) (shortPlacement words) b in
+    record { tables-long = t; words-long = w; accepted = a }

@@ -5,4 +5,3 @@ pub mod Ready
 pub mod Sound
 pub mod Marked
 pub mod Given
-pub mod Entry

@@ -3,7 +3,7 @@
 use mathlib.Core.Path.{_≡_, refl, sym, ap, _∙_}
 use mathlib.Core.Bool.{Bool, true, false, false≢true}
 use mathlib.Core.List.{List}
-use mathlib.Core.Option.{Option, none, some}
+use mathlib.Core.Option.{none, some}
 use Prim.Native.Nat.{ℕ, suc, _+_, _-_, _≤_, _<_}
 use native.Mathlib.Omega.{arith}
 use lib.Dec.{ltb}
@@ -22,13 +22,9 @@ use Rattle.rules.specs.Refusals.{lineOfRow}
 use Rattle.rules.specs.Placements.{Placement, marks, markRefusal, marksFrom, placementRefusal}
 use Rattle.laws.specs.Tabled.{rowAt, rowsFrom, rows-length}
 use Rattle.laws.specs.Walk.{noRow, sitesBefore, sitesBefore-zero}
+use Rattle.net.specs.Checks.{checking}
 use Rattle.rows.specs.Links.{Standing, row-is, count-next}
 use Rattle.slack.specs.Sites.{before-few, before-all, site-number, site-row}
-
--- accepted where nothing is refused
-abbrev pub checkingOf : Option Refusal → Checking
-checkingOf none = Accepted
-checkingOf (some r) = Refused r
 
 -- a site is marked with a type the net hasn't
 abbrev pub overMark : (hasSite : Bool) (types mark : ℕ) → Bool
@@ -74,8 +70,8 @@ pub past-start : {words : List ℕ} {from : ℕ} → from ≤ sitesRoom → Past
 past-start h = record { on = omega arith; inside = h; left = λ es n. refl }
 
 module _ {words : List ℕ} {from j mark : ℕ} (P : PastFrom words from j) (mark-is : mark ≡ marks words j) where
-  pub past-stop : j < sitesRoom → 0 < mark → (es : List Entry) → sitesOf (rowsOf es) ≤ from → Refused (Mark 0) ≡ checkingOf (marksFrom es (marks words) from (sitesRoom - from))
-  past-stop h g es n = ap checkingOf (sym (P .left es n ∙ marks-stop es (marks words) j h (mark-past es (marks words) j (omega (arith, P .on)) ∙ rw (lt-ltb 0 (marks words j) (rw mark-is at g)))))
+  pub past-stop : j < sitesRoom → 0 < mark → (es : List Entry) → sitesOf (rowsOf es) ≤ from → Refused (Mark 0) ≡ checking (marksFrom es (marks words) from (sitesRoom - from))
+  past-stop h g es n = ap checking (sym (P .left es n ∙ marks-stop es (marks words) j h (mark-past es (marks words) j (omega (arith, P .on)) ∙ rw (lt-ltb 0 (marks words j) (rw mark-is at g)))))
 
   pub past-pass : j < sitesRoom → mark ≤ 0 → PastFrom words from (j + 1)
   past-pass h g = record {
@@ -84,8 +80,8 @@ module _ {words : List ℕ} {from j mark : ℕ} (P : PastFrom words from j) (mar
     left = λ es n. P .left es n ∙ marks-pass es (marks words) j h (mark-past es (marks words) j (omega (arith, P .on)) ∙ rw (le-ltb 0 (marks words j) (rw mark-is at g)));
   }
 
-pub past-end : {words : List ℕ} {from j : ℕ} → PastFrom words from j → sitesRoom ≤ j → (es : List Entry) → sitesOf (rowsOf es) ≤ from → Accepted ≡ checkingOf (marksFrom es (marks words) from (sitesRoom - from))
-past-end {words} {from} {j} P h es n = ap checkingOf (sym (P .left es n ∙ marks-end es (marks words) j h))
+pub past-end : {words : List ℕ} {from j : ℕ} → PastFrom words from j → sitesRoom ≤ j → (es : List Entry) → sitesOf (rowsOf es) ≤ from → Accepted ≡ checking (marksFrom es (marks words) from (sitesRoom - from))
+past-end {words} {from} {j} P h es n = ap checking (sym (P .left es n ∙ marks-end es (marks words) j h))
 
 -- ---- the rows in their order
 -- the entries have the rows of the words, and as many types
@@ -121,8 +117,8 @@ module _ {rows : List ℕ} {due : List ℤ} {types n : ℕ} {words : List ℕ} (
 
   -- all rows have passed: the marks that are left are past the last site
   pub passed-all : {i k : ℕ} {r : Checking} → Passed rows due types n words i k → n ≤ i
-      → ((es : List Entry) → sitesOf (rowsOf es) ≤ k → r ≡ checkingOf (marksFrom es (marks words) k (sitesRoom - k)))
-      → (es : List Entry) → NetOf rows due types n es → r ≡ checkingOf (placementRefusal es (marks words))
+      → ((es : List Entry) → sitesOf (rowsOf es) ≤ k → r ≡ checking (marksFrom es (marks words) k (sitesRoom - k)))
+      → (es : List Entry) → NetOf rows due types n es → r ≡ checking (placementRefusal es (marks words))
   passed-all {i} {k} P h past es N = rw (P .left es N) (past es (rw (N .rows-are) (omega (arith, P .sites, before-all net i (rw rows-length h)))))
 
   module _ {i k : ℕ} {x : Row} (P : Passed rows due types n words i k) (h : i < n) (x-is : x ≡ rowAt rows due i) where
@@ -137,8 +133,8 @@ module _ {rows : List ℕ} {due : List ℤ} {types n : ℕ} {words : List ℕ} (
     at-row es N s = rw (N .types-are) at (mark-at es (marks words) i k (rw (N .rows-are, rows-length) h) (rw (N .rows-are, here) s) (P .sites ∙ rw (N .rows-are)))
 
     -- a mark above the net's types stops it, with the row's line
-    pub row-stop : overMark (x .site) types (marks words k) ≡ true → {line : ℕ} → line ≡ types + i + 1 → (es : List Entry) → NetOf rows due types n es → Refused (Mark line) ≡ checkingOf (placementRefusal es (marks words))
-    row-stop o e es N = rw e (ap checkingOf (sym (go (x .site) refl o)))
+    pub row-stop : overMark (x .site) types (marks words k) ≡ true → {line : ℕ} → line ≡ types + i + 1 → (es : List Entry) → NetOf rows due types n es → Refused (Mark line) ≡ checking (placementRefusal es (marks words))
+    row-stop o e es N = rw e (ap checking (sym (go (x .site) refl o)))
       where
         go : (b : Bool) → x .site ≡ b → overMark b types (marks words k) ≡ true → placementRefusal es (marks words) ≡ some (Mark (types + i + 1))
         go true s o = P .left es N ∙ marks-stop es (marks words) k (site-inside s) (at-row es N s ∙ rw o)

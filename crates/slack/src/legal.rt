@@ -9,7 +9,8 @@ ghost use lib.ListN.{length};
 ghost use Rattle.rules.specs.Entries.{Entry, rowsOf, sitesOf};
 ghost use Rattle.rules.specs.Placements.{marks, marksFrom, placementRefusal};
 ghost use Rattle.rules.specs.Quantities.{typesRoom, rowsRoom, sitesRoom, placementRoom};
-ghost use Rattle.slack.specs.Marked.{checkingOf, overMark, NetOf, Marking};
+ghost use Rattle.net.specs.Checks.{checking};
+ghost use Rattle.slack.specs.Marked.{overMark, NetOf, Marking};
 
 const SITES_ROOM: usize = 64;
 
@@ -29,7 +30,7 @@ fn is_over(words: &[u64], site: bool, k: usize, count: usize) -> bool
 // The marks past the last site: any is refused, and there is no line for it.
 fn check_past(words: &[u64], from: usize) -> Checking
     requires { ⌜ (from ≤ sitesRoom) × (placementRoom ≤ length (now words)) ⌝ }
-    ensures { λ r. ⌜ ((es : List Entry) → sitesOf (rowsOf es) ≤ from → r ≡ checkingOf (marksFrom es (marks (now (words .entry))) from (sitesRoom - from))) ⌝ }
+    ensures { λ r. ⌜ ((es : List Entry) → sitesOf (rowsOf es) ≤ from → r ≡ checking (marksFrom es (marks (now (words .entry))) from (sitesRoom - from))) ⌝ }
 {
     let mut j = from;
     while j < SITES_ROOM {
@@ -52,7 +53,7 @@ fn line_of(count: usize, row: usize) -> u32
 // The rows in their order, and so the sites in theirs, each with its mark; then the marks past the last site.
 pub fn check_marks(rows: &[u32], due: &[i64], count: usize, n: usize, words: &[u64]) -> Checking
     requires { ⌜ Marking (now rows) (now due) count n (now words) ⌝ }
-    ensures { λ r. ⌜ ((es : List Entry) → NetOf (now (rows .entry)) (now (due .entry)) count n es → r ≡ checkingOf (placementRefusal es (marks (now (words .entry))))) ⌝ }
+    ensures { λ r. ⌜ ((es : List Entry) → NetOf (now (rows .entry)) (now (due .entry)) count n es → r ≡ checking (placementRefusal es (marks (now (words .entry))))) ⌝ }
 {
     let mut i = 0;
     let mut k = 0;

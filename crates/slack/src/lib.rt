@@ -7,12 +7,13 @@ use rules::Refusal;
 use rules::Slacking;
 ghost use mathlib.Core.Path.{_≡_};
 ghost use Prim.Native.Nat.{_≤_};
-ghost use Rattle.rules.specs.Promises.{CheckPromise, SlackPromise};
+ghost use Rattle.rules.specs.Promises.{SlackPromise};
 ghost use Rattle.rules.specs.Quantities.{mostOhms};
 ghost use Rattle.laws.specs.Tabled.{rowAt};
 ghost use Rattle.slack.specs.Hung.{Within, slackHung};
 ghost use Rattle.slack.specs.Ready.{Sound, hungAt};
-ghost use Rattle.slack.specs.Given.{Given, tablesOf, countsOf};
+ghost use Rattle.net.specs.TableSteps.{tablesOf, countsOf};
+ghost use Rattle.slack.specs.Given.{Given};
 
 mod legal;
 mod steps;
@@ -68,24 +69,20 @@ fn slack_of_accepted(
     }
 }
 
-// Of tables that were checked: refusal 7 for the placement's own area comes first.
-pub fn slack_of_checked(
-    checked: Checking,
+// The slack of a placement, and the load on the driver.
+pub fn slack_of(
     types: &[u32],
     rows: &[u32],
     due: &[i64],
-    count: usize,
-    n: usize,
-    words: &[u64],
+    type_count: usize,
+    row_count: usize,
+    placement: &[u64],
 ) -> Slacking
-    requires { ⌜ CheckPromise (tablesOf (now types) (now rows) (now due)) (countsOf count n) checked ⌝ }
-    ensures { λ r. ⌜ SlackPromise (tablesOf (now (types .entry)) (now (rows .entry)) (now (due .entry))) (countsOf count n) (now (words .entry)) r ⌝ }
+    ensures { λ r. ⌜ SlackPromise (tablesOf (now (types .entry)) (now (rows .entry)) (now (due .entry))) (countsOf «type_count» «row_count») (now (placement .entry)) r ⌝ }
 {
-    if words.len() < PLACEMENT_ROOM {
-        return Slacking::Refused(Refusal::Short);
-    }
-    match checked {
+    let short = placement.len() < PLACEMENT_ROOM;
+    match net::check_tables(short, types, rows, due, type_count, row_count) {
         Checking::Refused(r) => Slacking::Refused(r),
-        Checking::Accepted => slack_of_accepted(types, rows, due, count, n, words),
+        Checking::Accepted => slack_of_accepted(types, rows, due, type_count, row_count, placement),
     }
 }
