@@ -7,18 +7,27 @@ use rules::Planning;
 use rules::Reading;
 use rules::Refusal;
 use rules::Slacking;
+ghost use mathlib.Core.Path.{_≡_};
+ghost use mathlib.Core.Bool.{_||_};
+ghost use lib.Dec.{ltb};
+ghost use Rattle.net.specs.TableSteps.{tablesOf};
+ghost use Rattle.zombrict.specs.Texts.{SlackRead, PlanRead, ListRead, CheckTextCall, SlackTextCall, PlanTextCall, ListTextCall};
 
 const PLACEMENT_ROOM: usize = 4;
 
 const LIST_ROOM: usize = 257;
 
-fn wide(x: u32) -> usize {
+fn wide(x: u32) -> usize
+    ensures { λ r. ⌜ r ≡ x ⌝ }
+{
     x as usize
 }
 
 // A net as text, checked. The values answered are the counts of types and rows.
 #[no_mangle]
-pub extern "C" fn zombrict_check_text(text: &[u8], answer: &mut [i64]) -> u32 {
+pub extern "C" fn zombrict_check_text(text: &[u8], answer: &mut [i64]) -> u32
+    ensures { λ r. ⌜ CheckTextCall (now (text .entry)) (now (answer .entry)) (now (answer .exit)) r ⌝ }
+{
     if answer.len() < ANSWER_ROOM {
         return SHORT;
     }
@@ -35,7 +44,9 @@ fn slack_read(
     rows: &[u32],
     due: &[i64],
     placement: &[u64],
-) -> Slacking {
+) -> Slacking
+    ensures { λ r. ⌜ SlackRead read (tablesOf (now (types .entry)) (now (rows .entry)) (now (due .entry))) (now (placement .entry)) r ⌝ }
+{
     match read {
         Reading::Refused(r) => Slacking::Refused(r),
         Reading::Read { types: t, rows: n } => {
@@ -46,7 +57,9 @@ fn slack_read(
 
 // The slack of a placement on a net given as text.
 #[no_mangle]
-pub extern "C" fn zombrict_slack_text(text: &[u8], placement: &[u64], answer: &mut [i64]) -> u32 {
+pub extern "C" fn zombrict_slack_text(text: &[u8], placement: &[u64], answer: &mut [i64]) -> u32
+    ensures { λ r. ⌜ SlackTextCall (now (text .entry)) (now (placement .entry)) (now (answer .entry)) (now (answer .exit)) r ⌝ }
+{
     if answer.len() < ANSWER_ROOM {
         return SHORT;
     }
@@ -67,7 +80,9 @@ fn plan_read(
     rows: &[u32],
     due: &[i64],
     placement: &mut [u64],
-) -> Planning {
+) -> Planning
+    ensures { λ r. ⌜ PlanRead read (tablesOf (now (types .entry)) (now (rows .entry)) (now (due .entry))) (now (placement .entry)) r (now (placement .exit)) ⌝ }
+{
     match read {
         Reading::Refused(r) => Planning::Refused(r),
         Reading::Read { types: t, rows: n } => {
@@ -95,7 +110,9 @@ pub extern "C" fn zombrict_plan_text(
     text: &[u8],
     placement: &mut [u64],
     answer: &mut [i64],
-) -> u32 {
+) -> u32
+    ensures { λ r. ⌜ PlanTextCall (now (text .entry)) (now (placement .entry)) (now (placement .exit)) (now (answer .entry)) (now (answer .exit)) r ⌝ }
+{
     if answer.len() < ANSWER_ROOM {
         return SHORT;
     }
@@ -118,7 +135,9 @@ fn list_read(
     row: usize,
     list_loads: &mut [u32],
     list_times: &mut [i64],
-) -> Listing {
+) -> Listing
+    ensures { λ r. ⌜ ListRead read (tablesOf (now (types .entry)) (now (rows .entry)) (now (due .entry))) row (lentOf (now («list_loads» .entry)) (now («list_times» .entry))) r (lentOf (now («list_loads» .exit)) (now («list_times» .exit))) ⌝ }
+{
     match read {
         Reading::Refused(r) => Listing::Refused(r),
         Reading::Read { types: t, rows: n } => {
@@ -142,7 +161,9 @@ fn list_read(
     }
 }
 
-fn short_list(loads: usize, times: usize) -> bool {
+fn short_list(loads: usize, times: usize) -> bool
+    ensures { λ r. ⌜ r ≡ (ltb loads 257 || ltb times 257) ⌝ }
+{
     if loads < LIST_ROOM {
         return true;
     }
@@ -157,7 +178,9 @@ pub extern "C" fn zombrict_list_text(
     list_loads: &mut [u32],
     list_times: &mut [i64],
     answer: &mut [i64],
-) -> u32 {
+) -> u32
+    ensures { λ r. ⌜ ListTextCall (now (text .entry)) row (lentOf (now («list_loads» .entry)) (now («list_times» .entry))) (lentOf (now («list_loads» .exit)) (now («list_times» .exit))) (now (answer .entry)) (now (answer .exit)) r ⌝ }
+{
     if answer.len() < ANSWER_ROOM {
         return SHORT;
     }

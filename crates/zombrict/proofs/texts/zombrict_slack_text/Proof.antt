@@ -1,0 +1,89 @@
+use borrow.Author.Needs.{needs}
+use Rattle.zombrict.proofs.texts.zombrict_slack_text.Statement.{statement}
+use Rattle.zombrict.proofs.texts.zombrict_slack_text.Tie as tie
+use Rattle.zombrict.proofs.texts.zombrict_slack_text.Reads as reads
+use Rattle.zombrict.proofs.texts.zombrict_slack_text.Lts as lts
+use Rattle.net.proofs.read_net.Reads as read-net-reads
+use Rattle.zombrict.proofs.answers.tell_refusal.Reads as tell-refusal-reads
+use Rattle.zombrict.proofs.answers.tell_slacking.Reads as tell-slacking-reads
+use Rattle.zombrict.proofs.texts.slack_read.Reads as slack-read-reads
+
+-- src/texts.rt:58:9
+returns : tie.Need-returns
+returns c = ?
+
+-- src/texts.rt:61:9
+tell-refusal-requires : tie.Need-tell-refusal-requires
+tell-refusal-requires c κs = search needs
+
+-- src/texts.rt:61:9
+same-length : tie.Need-same-length
+same-length c = search needs
+
+-- src/texts.rt:61:9
+returns-2 : tie.Need-returns-2
+returns-2 c = ?
+
+-- src/texts.rt:66:36
+slice-aggregate-read-net : tie.Need-slice-aggregate-read-net
+slice-aggregate-read-net c = search needs
+
+-- src/texts.rt:66:48
+slice-aggregate-read-net-2 : tie.Need-slice-aggregate-read-net-2
+slice-aggregate-read-net-2 c = search needs
+
+-- src/texts.rt:66:59
+slice-aggregate-read-net-3 : tie.Need-slice-aggregate-read-net-3
+slice-aggregate-read-net-3 c = search needs
+
+-- src/texts.rt:66:9
+read-net-requires : tie.Need-read-net-requires
+read-net-requires c κs = search needs
+
+-- src/texts.rt:67:30
+slice-aggregate-slack-read : tie.Need-slice-aggregate-slack-read
+slice-aggregate-slack-read c = search needs
+
+-- src/texts.rt:67:38
+slice-aggregate-slack-read-2 : tie.Need-slice-aggregate-slack-read-2
+slice-aggregate-slack-read-2 c = search needs
+
+-- src/texts.rt:67:45
+slice-aggregate-slack-read-3 : tie.Need-slice-aggregate-slack-read-3
+slice-aggregate-slack-read-3 c = search needs
+
+-- src/texts.rt:67:9
+slack-read-requires : tie.Need-slack-read-requires
+slack-read-requires c κs = search needs
+
+-- src/texts.rt:68:5
+tell-slacking-requires : tie.Need-tell-slacking-requires
+tell-slacking-requires c κs = search needs
+
+-- src/texts.rt:53:1
+same-length-2 : tie.Need-same-length-2
+same-length-2 c = search needs
+
+-- src/texts.rt:53:1
+returns-3 : tie.Need-returns-3
+returns-3 c = ?
+
+pub zombrict-slack-text-spec : {M : Type 1} → statement M
+zombrict-slack-text-spec =
+    tie.close
+    (tie.spec
+    returns
+    tell-refusal-requires
+    same-length
+    returns-2
+    slice-aggregate-read-net
+    slice-aggregate-read-net-2
+    slice-aggregate-read-net-3
+    read-net-requires
+    slice-aggregate-slack-read
+    slice-aggregate-slack-read-2
+    slice-aggregate-slack-read-3
+    slack-read-requires
+    tell-slacking-requires
+    same-length-2
+    returns-3)
