@@ -16,7 +16,7 @@ ghost use Rattle.rules.specs.Promises.{ReadPromise, CheckPromise, tablesRefusal
 ghost use Rattle.net.specs.Checks.{checking};
 ghost use Rattle.net.specs.TableSteps.{tablesOf, countsOf};
 
-mod areas;
+pub mod areas;
 mod below;
 mod checks;
 pub mod entries;
