@@ -1,7 +1,6 @@
 -- What each call on a text gives: the text read into tables that were all zero, and the promise of the entry on what was read. Assumes
 -- nothing.
 use mathlib.Core.Path.{_≡_}
-use mathlib.Core.Bool.{Bool}
 use mathlib.Core.List.{List}
 use Prim.Native.Nat.{ℕ}
 use lib.Dec.{ltb}

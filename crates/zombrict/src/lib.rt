@@ -3,6 +3,7 @@
 pub mod answers;
 mod texts;
 ghost use Rattle.net.specs.TableSteps.{tablesOf, countsOf};
+ghost use Rattle.plan.specs.Chosen.{columnsOf, lentOf};
 ghost use Rattle.zombrict.specs.Calls.{ReadCall, CheckCall, SlackCall, PlanCall, ListCall};
 
 // Room: words of an answer.

@@ -11,6 +11,7 @@ ghost use mathlib.Core.Path.{_≡_};
 ghost use mathlib.Core.Bool.{_||_};
 ghost use lib.Dec.{ltb};
 ghost use Rattle.net.specs.TableSteps.{tablesOf};
+ghost use Rattle.plan.specs.Chosen.{lentOf};
 ghost use Rattle.zombrict.specs.Texts.{SlackRead, PlanRead, ListRead, CheckTextCall, SlackTextCall, PlanTextCall, ListTextCall};
 
 const PLACEMENT_ROOM: usize = 4;

@@ -1,3 +1,4 @@
+use Rattle.zombrict.specs.TextLaws.{slack-refused, slack-read}
 use borrow.Author.Needs.{needs}
 use Rattle.zombrict.proofs.texts.slack_read.Statement.{statement}
 use Rattle.zombrict.proofs.texts.slack_read.Tie as tie
@@ -28,11 +29,11 @@ slack-of-requires c κs = search needs
 
 -- src/texts.rt:35:1
 returns : tie.Need-returns
-returns c = ?
+returns c = slack-refused _ _ (c .before .read .given .1)
 
 -- src/texts.rt:35:1
 returns-2 : tie.Need-returns-2
-returns-2 c = ?
+returns-2 c = slack-read _ _ _ (c .before .before .before .before .read2 .given .1) (c .before .before .wide .ensures) (c .before .wide2 .ensures) (c .slack-of .ensures)
 
 pub slack-read-spec : {M : Type 1} → statement M
 slack-read-spec =

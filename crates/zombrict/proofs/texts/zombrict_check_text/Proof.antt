@@ -1,3 +1,6 @@
+use Rattle.zombrict.specs.Crossing.{called-short, called}
+use mathlib.Core.Path.{refl}
+use borrow.Author.Tests.{lt-ltb, le-ltb}
 use borrow.Author.Needs.{needs}
 use Rattle.zombrict.proofs.texts.zombrict_check_text.Statement.{statement}
 use Rattle.zombrict.proofs.texts.zombrict_check_text.Tie as tie
@@ -8,7 +11,7 @@ use Rattle.zombrict.proofs.answers.tell_reading.Reads as tell-reading-r
 
 -- src/texts.rt:26:9
 returns : tie.Need-returns
-returns c = ?
+returns c = called-short (lt-ltb _ _ (c .if1 .taken)) (refl, refl)
 
 -- src/texts.rt:31:33
 slice-aggregate-read-net : tie.Need-slice-aggregate-read-net
@@ -36,7 +39,7 @@ same-length c = search needs
 
 -- src/texts.rt:21:1
 returns-2 : tie.Need-returns-2
-returns-2 c = ?
+returns-2 c = called (le-ltb _ _ (c .before .before .before .before .before .before .before .before .before .before .if1 .left)) (c .before .before .before .before .before .before .read-net .result, _, c .before .before .before .before .before .before .read-net .ensures, c .before .tell-reading .ensures)
 
 pub zombrict-check-text-spec : {M : Type 1} → statement M
 zombrict-check-text-spec =

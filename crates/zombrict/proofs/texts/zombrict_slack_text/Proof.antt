@@ -1,3 +1,9 @@
+use Rattle.rules.specs.Answers.{noTiming, slackFigures}
+use Rattle.rules.specs.declared.Slacking.the-variants.{Refused}
+use Rattle.rules.specs.declared.Refusal.the-variants.{Short}
+use Rattle.zombrict.specs.Crossing.{called-short, called, crossed-refused}
+use mathlib.Core.Path.{refl}
+use borrow.Author.Tests.{lt-ltb, le-ltb}
 use borrow.Author.Needs.{needs}
 use Rattle.zombrict.proofs.texts.zombrict_slack_text.Statement.{statement}
 use Rattle.zombrict.proofs.texts.zombrict_slack_text.Tie as tie
@@ -10,7 +16,7 @@ use Rattle.zombrict.proofs.texts.slack_read.Reads as slack-read-reads
 
 -- src/texts.rt:58:9
 returns : tie.Need-returns
-returns c = ?
+returns c = called-short (lt-ltb _ _ (c .if1 .taken)) (refl, refl)
 
 -- src/texts.rt:61:9
 tell-refusal-requires : tie.Need-tell-refusal-requires
@@ -22,7 +28,8 @@ same-length c = search needs
 
 -- src/texts.rt:61:9
 returns-2 : tie.Need-returns-2
-returns-2 c = ?
+unfolding noTiming slackFigures
+returns-2 c = called (le-ltb _ _ (c .before .before .before .before .if1 .left)) (Refused Short, called-short (lt-ltb _ _ (c .before .before .before .if2 .taken)) refl, crossed-refused noTiming Short refl refl (c .before .tell-refusal .ensures))
 
 -- src/texts.rt:66:36
 slice-aggregate-read-net : tie.Need-slice-aggregate-read-net
@@ -66,7 +73,7 @@ same-length-2 c = search needs
 
 -- src/texts.rt:53:1
 returns-3 : tie.Need-returns-3
-returns-3 c = ?
+returns-3 c = called (le-ltb _ _ (c .before .before .before .before .before .before .before .before .before .before .before .before .before .before .before .if1 .left)) (c .before .before .before .slack-read .result, called (le-ltb _ _ (c .before .before .before .before .before .before .before .before .before .before .before .before .before .before .if2 .left)) (c .before .before .before .before .before .before .before .before .before .before .read-net .result, _, c .before .before .before .before .before .before .before .before .before .before .read-net .ensures, c .before .before .before .slack-read .ensures), c .before .tell-slacking .ensures)
 
 pub zombrict-slack-text-spec : {M : Type 1} → statement M
 zombrict-slack-text-spec =
