@@ -11,7 +11,13 @@ fn wide(x: u32) -> usize {
 }
 
 // Of a net that was read: its plan.
-fn plan(types: &[u32; 12], rows: &[u32; 1536], due: &[i64; 256], type_count: usize, row_count: usize) {
+fn plan(
+    types: &[u32; 12],
+    rows: &[u32; 1536],
+    due: &[i64; 256],
+    type_count: usize,
+    row_count: usize,
+) {
     let mut placement = [0u64; 4];
     let mut loads = [0u32; 768];
     let mut times = [0i64; 768];

@@ -2,6 +2,7 @@
 // call is lent and answers.
 pub mod answers;
 mod texts;
+
 ghost use Rattle.net.specs.TableSteps.{tablesOf, countsOf};
 ghost use Rattle.plan.specs.Chosen.{columnsOf, lentOf};
 ghost use Rattle.zombrict.specs.Calls.{ReadCall, CheckCall, SlackCall, PlanCall, ListCall};
@@ -89,7 +90,15 @@ pub extern "C" fn zombrict_plan(
         return SHORT;
     }
     let a = plan::plan_net(
-        types, rows, due, type_count, row_count, placement, loads, times, words,
+        types,
+        rows,
+        due,
+        type_count,
+        row_count,
+        placement,
+        loads,
+        times,
+        words,
     );
     answers::tell_planning(answer, a)
 }
@@ -116,7 +125,17 @@ pub extern "C" fn zombrict_list(
         return SHORT;
     }
     let a = plan::list_at(
-        types, rows, due, type_count, row_count, row, list_loads, list_times, loads, times, words,
+        types,
+        rows,
+        due,
+        type_count,
+        row_count,
+        row,
+        list_loads,
+        list_times,
+        loads,
+        times,
+        words,
     );
     answers::tell_listing(answer, a)
 }

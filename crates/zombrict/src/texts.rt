@@ -107,11 +107,7 @@ fn plan_read(
 
 // A placement of greatest slack for a net given as text.
 #[no_mangle]
-pub extern "C" fn zombrict_plan_text(
-    text: &[u8],
-    placement: &mut [u64],
-    answer: &mut [i64],
-) -> u32
+pub extern "C" fn zombrict_plan_text(text: &[u8], placement: &mut [u64], answer: &mut [i64]) -> u32
     ensures { λ r. ⌜ PlanTextCall (now (text .entry)) (now (placement .entry)) (now (placement .exit)) (now (answer .entry)) (now (answer .exit)) r ⌝ }
 {
     if answer.len() < ANSWER_ROOM {

@@ -1,43 +1,32 @@
-use Rattle.zombrict.specs.Crossing.{called-short, called}
-use borrow.Author.Tests.{lt-ltb, le-ltb}
+-- `zombrict::zombrict_read` meets its contract: 7 for the answer, else the promise of the entry and the answer as it crosses. Assumes nothing.
 use mathlib.Core.Path.{refl}
 use borrow.Author.Needs.{needs}
+use borrow.Author.Tests.{lt-ltb, le-ltb}
+use Rattle.zombrict.specs.Crossing.{called-short, called}
 use Rattle.zombrict.proofs.zombrict_read.Statement.{statement}
 use Rattle.zombrict.proofs.zombrict_read.Tie as tie
-use Rattle.zombrict.proofs.zombrict_read.Reads as reads
-use Rattle.zombrict.proofs.zombrict_read.Lts as lts
-use Rattle.net.proofs.read_net.Reads as read-net-reads
-use Rattle.zombrict.proofs.answers.tell_reading.Reads as tell-reading-reads
 
--- src/lib.rt:25:9
 returns : tie.Need-returns
 returns c = called-short (lt-ltb _ _ (c .if1 .taken)) ((refl, refl), refl)
 
--- src/lib.rt:27:9
 read-net-requires : tie.Need-read-net-requires
 read-net-requires c κs = search needs
 
--- src/lib.rt:28:5
 tell-reading-requires : tie.Need-tell-reading-requires
 tell-reading-requires c κs = search needs
 
--- src/lib.rt:14:1
 same-length : tie.Need-same-length
 same-length c = search needs
 
--- src/lib.rt:14:1
 same-length-2 : tie.Need-same-length-2
 same-length-2 c = search needs
 
--- src/lib.rt:14:1
 same-length-3 : tie.Need-same-length-3
 same-length-3 c = search needs
 
--- src/lib.rt:14:1
 same-length-4 : tie.Need-same-length-4
 same-length-4 c = search needs
 
--- src/lib.rt:14:1
 returns-2 : tie.Need-returns-2
 returns-2 c = called (le-ltb _ _ (c .before .before .before .before .before .before .before .before .before .before .before .before .if1 .left)) (c .before .before .before .before .before .before .before .before .read-net .result, c .before .before .before .before .before .before .before .before .read-net .ensures, c .before .tell-reading .ensures)
 

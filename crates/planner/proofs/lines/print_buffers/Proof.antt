@@ -1,13 +1,10 @@
-use borrow.Author.Needs.{needs}
+-- `planner::lines::print_buffers` meets its contract: the measure is what is left of the rows; no more sites were passed than rows. Assumes nothing.
 use mathlib.Core.Logic.{⊎-elim}
-use native.Mathlib.Omega.{arith}
 use Prim.Native.Nat.{_≤_, _-_}
+use native.Mathlib.Omega.{arith}
+use borrow.Author.Needs.{needs}
 use Rattle.planner.proofs.lines.print_buffers.Statement.{statement}
 use Rattle.planner.proofs.lines.print_buffers.Tie as tie
-use Rattle.planner.proofs.lines.print_buffers.Reads as reads
-use Rattle.planner.proofs.lines.print_buffers.Lts as lts
-use Rattle.planner.proofs.lines.mark_of.Reads as mark-of-reads
-use Rattle.planner.proofs.lines.print_buffer.Reads as print-buffer-reads
 
 abbrev Inv-loop : tie.InvT-loop
 Inv-loop rows placement row₀ site₀ row site = (row ≤ 256) × (site ≤ row)
@@ -15,51 +12,39 @@ Inv-loop rows placement row₀ site₀ row site = (row ≤ 256) × (site ≤ row
 abbrev μ-loop : tie.MeasureT-loop
 μ-loop rows placement row₀ site₀ row site = 256 - row
 
--- src/lines.rt:84:5
 loop-holds : tie.Need-loop-holds Inv-loop μ-loop
 loop-holds c = search needs
 
--- src/lines.rt:85:17
 mul-if1 : tie.Need-mul-if1 Inv-loop μ-loop
 mul-if1 c = search needs
 
--- src/lines.rt:85:17
 add-if1 : tie.Need-add-if1 Inv-loop μ-loop
 add-if1 c = search needs
 
--- src/lines.rt:85:12
 mul-if1-2 : tie.Need-mul-if1-2 Inv-loop μ-loop
 mul-if1-2 c = search needs
 
--- src/lines.rt:85:12
 element-copy-out-if1 : tie.Need-element-copy-out-if1 Inv-loop μ-loop
 element-copy-out-if1 c = search needs
 
--- src/lines.rt:86:38
 mark-of-requires : tie.Need-mark-of-requires Inv-loop μ-loop
 mark-of-requires c κs = search needs
 
--- src/lines.rt:86:13
 print-buffer-requires : tie.Need-print-buffer-requires Inv-loop μ-loop
 print-buffer-requires c κs = search needs
 
--- src/lines.rt:87:13
 add-site : tie.Need-add-site Inv-loop μ-loop
 add-site c = search needs
 
--- src/lines.rt:89:9
 add-row : tie.Need-add-row Inv-loop μ-loop
 add-row c = search needs
 
--- src/lines.rt:84:5
 loop-less : tie.Need-loop-less Inv-loop μ-loop
 loop-less c = search needs
 
--- src/lines.rt:84:5
 loop-again : tie.Need-loop-again Inv-loop μ-loop
 loop-again c = ⊎-elim (λ w. omega arith) (λ w. omega arith) (c .if1 .came)
 
--- src/lines.rt:81:1
 returns : tie.Need-returns Inv-loop μ-loop
 returns c = search needs
 

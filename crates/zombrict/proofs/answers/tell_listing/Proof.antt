@@ -1,50 +1,37 @@
-use Rattle.units.specs.Bits.{bits-back}
-use Rattle.rules.specs.Answers.{listFigures}
-use Rattle.zombrict.specs.Crossing.{words-are, crossed-done, crossed-refused}
+-- `zombrict::answers::tell_listing` meets its contract: an answer told as it crosses. Assumes nothing.
 use mathlib.Core.Path.{refl, ap, _∙_}
 use borrow.Author.Needs.{needs}
+use Rattle.rules.specs.Answers.{listFigures}
+use Rattle.units.specs.Bits.{bits-back}
+use Rattle.zombrict.specs.Crossing.{words-are, crossed-done, crossed-refused}
 use Rattle.zombrict.proofs.answers.tell_listing.Statement.{statement}
 use Rattle.zombrict.proofs.answers.tell_listing.Tie as tie
-use Rattle.zombrict.proofs.answers.tell_listing.Reads as reads
-use Rattle.zombrict.proofs.answers.tell_listing.Lts as lts
-use Rattle.zombrict.proofs.answers.tell.Reads as tell-reads
-use Rattle.zombrict.proofs.answers.tell_refusal.Reads as tell-refusal-reads
-use Rattle.zombrict.proofs.answers.wide.Reads as wide-reads
 
--- src/answers.rt:127:27
 enum-known-a : tie.Need-enum-known-a
 enum-known-a c = search needs
 
--- src/answers.rt:127:52
 wide-requires : tie.Need-wide-requires
 wide-requires c κs = search needs
 
--- src/answers.rt:127:39
 tell-requires : tie.Need-tell-requires
 tell-requires c κs = search needs
 
--- src/answers.rt:128:26
 enum-known-a-2 : tie.Need-enum-known-a-2
 enum-known-a-2 c = search needs
 
--- src/answers.rt:128:32
 tell-refusal-requires : tie.Need-tell-refusal-requires
 tell-refusal-requires c κs = search needs
 
--- src/answers.rt:122:1
 same-length : tie.Need-same-length
 same-length c = search needs
 
--- src/answers.rt:122:1
 returns : tie.Need-returns
 unfolding listFigures
 returns c = crossed-done _ _ _ (ap listFigures (c .before .before .before .before .before .a .given .1)) refl (c .before .tell .ensures .0) (words-are _ refl (bits-back _ (c .before .before .wide .ok) ∙ c .before .before .wide .ensures) refl (c .before .tell .ensures .1))
 
--- src/answers.rt:122:1
 same-length-2 : tie.Need-same-length-2
 same-length-2 c = search needs
 
--- src/answers.rt:122:1
 returns-2 : tie.Need-returns-2
 unfolding listFigures
 returns-2 c = crossed-refused 0 _ (ap listFigures (c .before .before .before .before .a2 .given .1)) refl (c .before .tell-refusal .ensures)

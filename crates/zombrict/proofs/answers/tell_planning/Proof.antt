@@ -1,51 +1,38 @@
-use Rattle.units.specs.Bits.{bits-back}
-use native.Mathlib.Omega.{arith}
-use Rattle.rules.specs.Answers.{planFigures, noTiming}
-use Rattle.zombrict.specs.Crossing.{words-are, crossed-done, crossed-refused}
+-- `zombrict::answers::tell_planning` meets its contract: an answer told as it crosses. Assumes nothing.
 use mathlib.Core.Path.{refl, ap, _∙_}
+use native.Mathlib.Omega.{arith}
 use borrow.Author.Needs.{needs}
+use Rattle.rules.specs.Answers.{planFigures, noTiming}
+use Rattle.units.specs.Bits.{bits-back}
+use Rattle.zombrict.specs.Crossing.{words-are, crossed-done, crossed-refused}
 use Rattle.zombrict.proofs.answers.tell_planning.Statement.{statement}
 use Rattle.zombrict.proofs.answers.tell_planning.Tie as tie
-use Rattle.zombrict.proofs.answers.tell_planning.Reads as reads
-use Rattle.zombrict.proofs.answers.tell_planning.Lts as lts
-use Rattle.zombrict.proofs.answers.tell.Reads as tell-reads
-use Rattle.zombrict.proofs.answers.tell_refusal.Reads as tell-refusal-reads
-use Rattle.zombrict.proofs.answers.wide.Reads as wide-reads
 
--- src/answers.rt:117:29
 enum-known-a : tie.Need-enum-known-a
 enum-known-a c = search needs
 
--- src/answers.rt:117:68
 wide-requires : tie.Need-wide-requires
 wide-requires c κs = search needs
 
--- src/answers.rt:117:46
 tell-requires : tie.Need-tell-requires
 tell-requires c κs = search needs
 
--- src/answers.rt:118:27
 enum-known-a-2 : tie.Need-enum-known-a-2
 enum-known-a-2 c = search needs
 
--- src/answers.rt:118:33
 tell-refusal-requires : tie.Need-tell-refusal-requires
 tell-refusal-requires c κs = search needs
 
--- src/answers.rt:112:1
 same-length : tie.Need-same-length
 same-length c = search needs
 
--- src/answers.rt:112:1
 returns : tie.Need-returns
 unfolding planFigures noTiming
 returns c = crossed-done _ _ _ (ap planFigures (c .before .before .before .before .before .before .a .given .1)) refl (c .before .tell .ensures .0) (words-are _ refl (bits-back _ (omega (arith, c .before .before .struct-told .given))) (bits-back _ (c .before .before .before .wide .ok) ∙ c .before .before .before .wide .ensures) (c .before .tell .ensures .1))
 
--- src/answers.rt:112:1
 same-length-2 : tie.Need-same-length-2
 same-length-2 c = search needs
 
--- src/answers.rt:112:1
 returns-2 : tie.Need-returns-2
 unfolding planFigures noTiming
 returns-2 c = crossed-refused noTiming _ (ap planFigures (c .before .before .before .before .a2 .given .1)) refl (c .before .tell-refusal .ensures)

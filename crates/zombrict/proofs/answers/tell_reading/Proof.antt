@@ -1,54 +1,40 @@
-use Rattle.units.specs.Bits.{bits-back}
-use Rattle.rules.specs.Answers.{readFigures, noCounts}
-use Rattle.zombrict.specs.Crossing.{words-are, crossed-done, crossed-refused}
+-- `zombrict::answers::tell_reading` meets its contract: an answer told as it crosses. Assumes nothing.
 use mathlib.Core.Path.{refl, ap, _∙_}
 use borrow.Author.Needs.{needs}
+use Rattle.rules.specs.Answers.{readFigures, noCounts}
+use Rattle.units.specs.Bits.{bits-back}
+use Rattle.zombrict.specs.Crossing.{words-are, crossed-done, crossed-refused}
 use Rattle.zombrict.proofs.answers.tell_reading.Statement.{statement}
 use Rattle.zombrict.proofs.answers.tell_reading.Tie as tie
-use Rattle.zombrict.proofs.answers.tell_reading.Reads as reads
-use Rattle.zombrict.proofs.answers.tell_reading.Lts as lts
-use Rattle.zombrict.proofs.answers.tell.Reads as tell-reads
-use Rattle.zombrict.proofs.answers.tell_refusal.Reads as tell-refusal-reads
-use Rattle.zombrict.proofs.answers.wide.Reads as wide-reads
 
--- src/answers.rt:87:25
 enum-known-a : tie.Need-enum-known-a
 enum-known-a c = search needs
 
--- src/answers.rt:87:55
 wide-requires : tie.Need-wide-requires
 wide-requires c κs = search needs
 
--- src/answers.rt:87:68
 wide-requires-2 : tie.Need-wide-requires-2
 wide-requires-2 c κs = search needs
 
--- src/answers.rt:87:42
 tell-requires : tie.Need-tell-requires
 tell-requires c κs = search needs
 
--- src/answers.rt:88:26
 enum-known-a-2 : tie.Need-enum-known-a-2
 enum-known-a-2 c = search needs
 
--- src/answers.rt:88:32
 tell-refusal-requires : tie.Need-tell-refusal-requires
 tell-refusal-requires c κs = search needs
 
--- src/answers.rt:82:1
 same-length : tie.Need-same-length
 same-length c = search needs
 
--- src/answers.rt:82:1
 returns : tie.Need-returns
 unfolding readFigures noCounts
 returns c = crossed-done _ _ _ (ap readFigures (c .before .before .before .before .before .before .a .given .1)) refl (c .before .tell .ensures .0) (words-are _ refl (bits-back _ (c .before .before .before .wide .ok) ∙ c .before .before .before .wide .ensures) (bits-back _ (c .before .before .wide2 .ok) ∙ c .before .before .wide2 .ensures) (c .before .tell .ensures .1))
 
--- src/answers.rt:82:1
 same-length-2 : tie.Need-same-length-2
 same-length-2 c = search needs
 
--- src/answers.rt:82:1
 returns-2 : tie.Need-returns-2
 unfolding readFigures noCounts
 returns-2 c = crossed-refused noCounts _ (ap readFigures (c .before .before .before .before .a2 .given .1)) refl (c .before .tell-refusal .ensures)

@@ -1,81 +1,60 @@
+-- `zombrict::texts::zombrict_plan_text` meets its contract: 7 for the answer, then for what is lent, then the text as it was read. Assumes nothing.
+use mathlib.Core.Path.{refl}
+use borrow.Author.Needs.{needs}
+use borrow.Author.Tests.{lt-ltb, le-ltb}
 use Rattle.rules.specs.Answers.{noTiming, planFigures}
 use Rattle.rules.specs.declared.Planning.the-variants.{Refused}
 use Rattle.rules.specs.declared.Refusal.the-variants.{Short}
 use Rattle.zombrict.specs.Crossing.{called-short, called, crossed-refused}
-use mathlib.Core.Path.{refl}
-use borrow.Author.Tests.{lt-ltb, le-ltb}
-use borrow.Author.Needs.{needs}
 use Rattle.zombrict.proofs.texts.zombrict_plan_text.Statement.{statement}
 use Rattle.zombrict.proofs.texts.zombrict_plan_text.Tie as tie
-use Rattle.zombrict.proofs.texts.zombrict_plan_text.Reads as reads
-use Rattle.zombrict.proofs.texts.zombrict_plan_text.Lts as lts
-use Rattle.net.proofs.read_net.Reads as read-net-reads
-use Rattle.zombrict.proofs.answers.tell_planning.Reads as tell-planning-reads
-use Rattle.zombrict.proofs.answers.tell_refusal.Reads as tell-refusal-reads
-use Rattle.zombrict.proofs.texts.plan_read.Reads as plan-read-reads
 
--- src/texts.rt:118:9
 returns : tie.Need-returns
 returns c = called-short (lt-ltb _ _ (c .if1 .taken)) ((refl, refl), refl)
 
--- src/texts.rt:121:9
 tell-refusal-requires : tie.Need-tell-refusal-requires
 tell-refusal-requires c κs = search needs
 
--- src/texts.rt:121:9
 same-length : tie.Need-same-length
 same-length c = search needs
 
--- src/texts.rt:121:9
 returns-2 : tie.Need-returns-2
 unfolding noTiming planFigures
 returns-2 c = called (le-ltb _ _ (c .before .before .before .before .if1 .left)) (Refused Short, called-short (lt-ltb _ _ (c .before .before .before .if2 .taken)) (refl, refl), crossed-refused noTiming Short refl refl (c .before .tell-refusal .ensures))
 
--- src/texts.rt:126:36
 slice-aggregate-read-net : tie.Need-slice-aggregate-read-net
 slice-aggregate-read-net c = search needs
 
--- src/texts.rt:126:48
 slice-aggregate-read-net-2 : tie.Need-slice-aggregate-read-net-2
 slice-aggregate-read-net-2 c = search needs
 
--- src/texts.rt:126:59
 slice-aggregate-read-net-3 : tie.Need-slice-aggregate-read-net-3
 slice-aggregate-read-net-3 c = search needs
 
--- src/texts.rt:126:9
 read-net-requires : tie.Need-read-net-requires
 read-net-requires c κs = search needs
 
--- src/texts.rt:127:29
 slice-aggregate-plan-read : tie.Need-slice-aggregate-plan-read
 slice-aggregate-plan-read c = search needs
 
--- src/texts.rt:127:37
 slice-aggregate-plan-read-2 : tie.Need-slice-aggregate-plan-read-2
 slice-aggregate-plan-read-2 c = search needs
 
--- src/texts.rt:127:44
 slice-aggregate-plan-read-3 : tie.Need-slice-aggregate-plan-read-3
 slice-aggregate-plan-read-3 c = search needs
 
--- src/texts.rt:127:9
 plan-read-requires : tie.Need-plan-read-requires
 plan-read-requires c κs = search needs
 
--- src/texts.rt:128:5
 tell-planning-requires : tie.Need-tell-planning-requires
 tell-planning-requires c κs = search needs
 
--- src/texts.rt:109:1
 same-length-2 : tie.Need-same-length-2
 same-length-2 c = search needs
 
--- src/texts.rt:109:1
 same-length-3 : tie.Need-same-length-3
 same-length-3 c = search needs
 
--- src/texts.rt:109:1
 returns-3 : tie.Need-returns-3
 returns-3 c = called (le-ltb _ _ (c .before .before .before .before .before .before .before .before .before .before .before .before .before .before .before .before .before .before .if1 .left)) (c .before .before .before .before .before .plan-read .result, called (le-ltb _ _ (c .before .before .before .before .before .before .before .before .before .before .before .before .before .before .before .before .before .if2 .left)) (c .before .before .before .before .before .before .before .before .before .before .before .before .before .read-net .result, _, c .before .before .before .before .before .before .before .before .before .before .before .before .before .read-net .ensures, c .before .before .before .before .before .plan-read .ensures), c .before .tell-planning .ensures)
 

@@ -1,77 +1,57 @@
-use Rattle.rules.specs.Answers.{noTiming, slackFigures}
-use Rattle.rules.specs.declared.Slacking.the-variants.{Refused}
-use Rattle.rules.specs.declared.Refusal.the-variants.{Short}
-use Rattle.zombrict.specs.Crossing.{called-short, called, crossed-refused}
+-- `zombrict::texts::zombrict_slack_text` meets its contract: 7 for the answer, then for what is lent, then the text as it was read. Assumes nothing.
 use mathlib.Core.Path.{refl}
-use borrow.Author.Tests.{lt-ltb, le-ltb}
 use borrow.Author.Needs.{needs}
+use borrow.Author.Tests.{lt-ltb, le-ltb}
+use Rattle.rules.specs.Answers.{noTiming, slackFigures}
+use Rattle.rules.specs.declared.Refusal.the-variants.{Short}
+use Rattle.rules.specs.declared.Slacking.the-variants.{Refused}
+use Rattle.zombrict.specs.Crossing.{called-short, called, crossed-refused}
 use Rattle.zombrict.proofs.texts.zombrict_slack_text.Statement.{statement}
 use Rattle.zombrict.proofs.texts.zombrict_slack_text.Tie as tie
-use Rattle.zombrict.proofs.texts.zombrict_slack_text.Reads as reads
-use Rattle.zombrict.proofs.texts.zombrict_slack_text.Lts as lts
-use Rattle.net.proofs.read_net.Reads as read-net-reads
-use Rattle.zombrict.proofs.answers.tell_refusal.Reads as tell-refusal-reads
-use Rattle.zombrict.proofs.answers.tell_slacking.Reads as tell-slacking-reads
-use Rattle.zombrict.proofs.texts.slack_read.Reads as slack-read-reads
 
--- src/texts.rt:58:9
 returns : tie.Need-returns
 returns c = called-short (lt-ltb _ _ (c .if1 .taken)) (refl, refl)
 
--- src/texts.rt:61:9
 tell-refusal-requires : tie.Need-tell-refusal-requires
 tell-refusal-requires c κs = search needs
 
--- src/texts.rt:61:9
 same-length : tie.Need-same-length
 same-length c = search needs
 
--- src/texts.rt:61:9
 returns-2 : tie.Need-returns-2
 unfolding noTiming slackFigures
 returns-2 c = called (le-ltb _ _ (c .before .before .before .before .if1 .left)) (Refused Short, called-short (lt-ltb _ _ (c .before .before .before .if2 .taken)) refl, crossed-refused noTiming Short refl refl (c .before .tell-refusal .ensures))
 
--- src/texts.rt:66:36
 slice-aggregate-read-net : tie.Need-slice-aggregate-read-net
 slice-aggregate-read-net c = search needs
 
--- src/texts.rt:66:48
 slice-aggregate-read-net-2 : tie.Need-slice-aggregate-read-net-2
 slice-aggregate-read-net-2 c = search needs
 
--- src/texts.rt:66:59
 slice-aggregate-read-net-3 : tie.Need-slice-aggregate-read-net-3
 slice-aggregate-read-net-3 c = search needs
 
--- src/texts.rt:66:9
 read-net-requires : tie.Need-read-net-requires
 read-net-requires c κs = search needs
 
--- src/texts.rt:67:30
 slice-aggregate-slack-read : tie.Need-slice-aggregate-slack-read
 slice-aggregate-slack-read c = search needs
 
--- src/texts.rt:67:38
 slice-aggregate-slack-read-2 : tie.Need-slice-aggregate-slack-read-2
 slice-aggregate-slack-read-2 c = search needs
 
--- src/texts.rt:67:45
 slice-aggregate-slack-read-3 : tie.Need-slice-aggregate-slack-read-3
 slice-aggregate-slack-read-3 c = search needs
 
--- src/texts.rt:67:9
 slack-read-requires : tie.Need-slack-read-requires
 slack-read-requires c κs = search needs
 
--- src/texts.rt:68:5
 tell-slacking-requires : tie.Need-tell-slacking-requires
 tell-slacking-requires c κs = search needs
 
--- src/texts.rt:53:1
 same-length-2 : tie.Need-same-length-2
 same-length-2 c = search needs
 
--- src/texts.rt:53:1
 returns-3 : tie.Need-returns-3
 returns-3 c = called (le-ltb _ _ (c .before .before .before .before .before .before .before .before .before .before .before .before .before .before .before .if1 .left)) (c .before .before .before .slack-read .result, called (le-ltb _ _ (c .before .before .before .before .before .before .before .before .before .before .before .before .before .before .if2 .left)) (c .before .before .before .before .before .before .before .before .before .before .read-net .result, _, c .before .before .before .before .before .before .before .before .before .before .read-net .ensures, c .before .before .before .slack-read .ensures), c .before .tell-slacking .ensures)
 
