@@ -1,7 +1,7 @@
 /* Zombrict: puts repeaters on a routed net so that the slack is the greatest possible.
  *
- * Link target/staticlib/libzombrict.a, which `rt staticlib zombrict` proves and makes. It is for x86-64 Linux, needs no other
- * library, allocates nothing, keeps nothing between calls and may be called from any number of threads at once.
+ * Link target/staticlib/libzombrict.a, which `rt staticlib zombrict` proves and makes. It is for x86-64 Linux, needs
+ * nothing but memcpy and memset, allocates nothing, keeps nothing between calls and may be called from many threads at once.
  *
  * UNITS. Resistance in ohms, load and capacitance in femtofarads, time in femtoseconds.
  *
