@@ -32,3 +32,4 @@ pub mod Given
 pub mod Kept
 pub mod StandIns
 pub mod StandInLists
+pub mod Checked

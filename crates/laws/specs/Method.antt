@@ -81,12 +81,16 @@ module _ (types : List Repeater) where
   }
 
   -- ---- a wire
+  pub behind-reaches : {t : Tree} {c : Cand Placement} (w : Wire) → Reaches t c → Reaches (wire w t) (behind w c)
+  unfolding behind loadOf timeOf
+  behind-reaches w r = record { legal = record { known = r .legal .known; only = r .legal .only }; load = rw (r .load); time = rw (r .load, r .time) }
+
   pub front-wire : {t : Tree} {l : List (Cand Placement)} (w : Wire) → Front (Reaches t) l → Front (Reaches (wire w t)) (wireStep w l)
   unfolding behind loadOf timeOf candOf
   front-wire {t} w F = front-wider up down (front-wireStep w F)
     where
       up : (c : Cand Placement) → Image (behind w) (Reaches t) c → Reaches (wire w t) c
-      up c (a, r, e) = rw e (record { legal = record { known = r .legal .known; only = r .legal .only }; load = rw (r .load); time = rw (r .load, r .time) })
+      up c (a, r, e) = rw e (behind-reaches w r)
 
       down : (c : Cand Placement) → Reaches (wire w t) c → (d : Cand Placement) × Image (behind w) (Reaches t) d × Covers d c
       down c r = (behind w (candOf t (c .place)), (candOf t (c .place), reaches (record { known = r .legal .known; only = r .legal .only }), refl), matches (sym (r .load)) (sym (r .time)))

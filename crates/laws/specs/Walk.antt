@@ -57,6 +57,15 @@ pub sitesBefore-step : (rows : List Row) (i : ℕ) → i < length rows → sites
 unfolding sitesBefore
 sitesBefore-step rows i h = rw add-one (sites-snoc rows i h)
 
+pub sitesBefore-most : (rows : List Row) (i : ℕ) → sitesBefore rows i ≤ sitesOf rows
+unfolding sitesBefore sitesOf
+sitesBefore-most rows i = go i rows
+  where
+    go : (i : ℕ) (rows : List Row) → sitesOf (take i rows) ≤ sitesOf rows
+    go zero rows = omega arith
+    go (suc i) [] = omega arith
+    go (suc i) (x ∷ rows) = omega (arith, go i rows)
+
 -- ---- what hangs under a row, one row more
 drop-step : (rows : List Row) (i : ℕ) → i < length rows → drop i rows ≡ getD rows i noRow ∷ drop (i + 1) rows
 drop-step rows i h = rw (add-one, drop-cons rows i noRow)

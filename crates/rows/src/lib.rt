@@ -14,7 +14,7 @@ ghost use Rattle.rules.specs.Quantities.{typesRoom, rowsRoom};
 ghost use Rattle.rules.specs.Tables.{typeWords, rowWords};
 ghost use Rattle.laws.specs.Tabled.{kindOf, rowAt, rowsFrom, repeaterAt};
 ghost use Rattle.rows.specs.Rows.{IsBuffer};
-ghost use Rattle.rows.specs.Links.{Links, Earlier, Counted, Standing, linksRoom};
+ghost use Rattle.rows.specs.Links.{Links, Earlier, Counted, Standing, linksRoom, nextAt, sitesAt};
 
 const ROW_WORDS: usize = 6;
 
@@ -147,4 +147,28 @@ pub fn link(rows: &[u32], due: &[i64], n: usize, links: &mut [u16])
 {
     count_sites(rows, due, n, links);
     link_rows(rows, due, n, links);
+}
+
+// The first row below a row, or the number past the last row.
+pub fn first_below(links: &[u16], row: usize) -> usize
+    requires { ⌜ (row < rowsRoom) × (length (now links) ≡ linksRoom) ⌝ }
+    ensures { λ r. ⌜ r ≡ getD (now (links .entry)) row 0 ⌝ }
+{
+    wide(links[row])
+}
+
+// The next row below the same parent, or the number past the last row.
+pub fn next_beside(links: &[u16], row: usize) -> usize
+    requires { ⌜ (row < rowsRoom) × (length (now links) ≡ linksRoom) ⌝ }
+    ensures { λ r. ⌜ r ≡ getD (now (links .entry)) (nextAt + row) 0 ⌝ }
+{
+    wide(links[NEXT_AT + row])
+}
+
+// How many sites come before a row: the number of its own, if it has one.
+pub fn sites_before(links: &[u16], row: usize) -> usize
+    requires { ⌜ (row < rowsRoom) × (length (now links) ≡ linksRoom) ⌝ }
+    ensures { λ r. ⌜ r ≡ getD (now (links .entry)) (sitesAt + row) 0 ⌝ }
+{
+    wide(links[SITES_AT + row])
 }

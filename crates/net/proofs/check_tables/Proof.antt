@@ -1,0 +1,27 @@
+-- `net::check_tables` meets its contract: 7, then entry by entry. Assumes nothing.
+use mathlib.Core.List.{[]}
+use Rattle.net.specs.TableSteps.{countsOf}
+use Rattle.net.specs.Filled.{rooms-are}
+use Rattle.net.specs.CheckLaws.{short-checked, own-checked, net-checked}
+use borrow.Author.Needs.{needs}
+use Rattle.net.proofs.check_tables.Statement.{statement}
+use Rattle.net.proofs.check_tables.Tie as tie
+
+short-areas-requires : tie.Need-short-areas-requires
+short-areas-requires c κs = search needs
+
+returns : tie.Need-returns
+returns c = short-checked (c .before .before .before .before .args .short) (c .before .before .before .before .args .types .now) (c .before .before .before .before .args .rows .now) (c .before .before .before .before .args .due .now) (countsOf (c .before .before .before .before .args .type-count) (c .before .before .before .before .args .row-count)) (c .before .short-areas .result) (c .before .short-areas .ensures) (c .if1 .taken)
+
+returns-2 : tie.Need-returns-2
+returns-2 c = own-checked (c .before .before .before .before .before .args .short) (c .before .before .before .before .before .args .types .now) (c .before .before .before .before .before .args .rows .now) (c .before .before .before .before .before .args .due .now) (countsOf (c .before .before .before .before .before .args .type-count) (c .before .before .before .before .before .args .row-count)) (c .before .before .short-areas .result) (c .before .before .short-areas .ensures) (c .before .if1 .left) (c .if2 .taken)
+
+take-net-requires : tie.Need-take-net-requires
+take-net-requires c κs = rooms-are [] (c .before .before .before .before .before .args .types .now) (c .before .before .before .before .before .args .rows .now) (c .before .before .before .before .before .args .due .now) (c .before .before .short-areas .result) (c .before .before .short-areas .ensures) (c .before .if1 .left)
+
+returns-3 : tie.Need-returns-3
+returns-3 c = net-checked (c .before .before .before .before .before .before .args .short) (c .before .before .before .before .before .before .args .types .now) (c .before .before .before .before .before .before .args .rows .now) (c .before .before .before .before .before .before .args .due .now) (countsOf (c .before .before .before .before .before .before .args .type-count) (c .before .before .before .before .before .before .args .row-count)) (c .before .before .before .short-areas .result) (c .before .before .before .short-areas .ensures) (c .take-net .result) (c .before .before .if1 .left) (c .before .if2 .left) (c .take-net .ensures)
+
+pub check-tables-spec : {M : Type 1} → statement M
+check-tables-spec =
+    tie.close (tie.spec short-areas-requires returns returns-2 take-net-requires returns-3)

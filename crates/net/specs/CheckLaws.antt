@@ -1,0 +1,84 @@
+-- A net given as tables, checked: the refusal of its types, of its rows behind them, and the promise of check_net. Assumes nothing.
+use mathlib.Core.Path.{_≡_, refl, sym, ap, _∙_}
+use mathlib.Core.Bool.{Bool, true, false, _||_}
+use mathlib.Core.List.{List, [], _∷_, _++_}
+use mathlib.Core.Option.{Option, none, some}
+use Prim.Native.Nat.{ℕ}
+use lib.Dec.{ltb}
+use lib.IntN.{ℤ}
+use lib.ListN.{length}
+use Rattle.rules.specs.declared.Refusal.{Refusal}
+use Rattle.rules.specs.declared.Refusal.the-variants.{Short}
+use Rattle.rules.specs.declared.Checking.{Checking}
+use Rattle.rules.specs.declared.Checking.the-variants.{Accepted}
+use Rattle.rules.specs.declared.Checking.the-variants.{Refused as NotAccepted}
+use Rattle.rules.specs.Lists.{orElse, when}
+use Rattle.rules.specs.Entries.{Entry}
+use Rattle.rules.specs.Tables.{Tables, Counts, shortTables, tableEntries}
+use Rattle.rules.specs.Refusals.{refusalOf, firstRefusal}
+use Rattle.rules.specs.Answers.{refused, done, checkFigures}
+use Rattle.rules.specs.Promises.{Settled, tablesRefusal, CheckPromise}
+use Rattle.net.specs.declared.Passed.{Passed}
+use Rattle.net.specs.declared.Taking.{Taking}
+use Rattle.net.specs.declared.Taking.the-variants.{Taken, Refused}
+use Rattle.net.specs.Checks.{checking, FewPassed}
+use Rattle.net.specs.Held.{Holds}
+use Rattle.net.specs.Steps.{AllBehind}
+use Rattle.net.specs.TableSteps.{tablesOf, countsOf, typeEntries, rowEntries, Through, FewTaken, TypesTaken, RowsTaken}
+
+module _ (types rows : List ℕ) (due : List ℤ) (type-count row-count : ℕ) (r : Taking) (took : TypesTaken types type-count r) where
+  pub types-refused : (x : Refusal) → r ≡ Refused x → NotAccepted x ≡ checking (refusalOf (tableEntries (tablesOf types rows due) (countsOf type-count row-count)))
+  unfolding refusalOf tableEntries
+  types-refused x e =
+      let g : (rest : List Entry) → firstRefusal [] (typeEntries (tablesOf types rows due) type-count ++ rest) ≡ some x = rw e at (took rows due) in
+      rw (g (rowEntries (tablesOf types rows due) row-count))
+
+  module _ (n : Passed) (r-is : r ≡ Taken n) (r′ : Taking) (took′ : RowsTaken rows due n row-count r′) where
+    through : Through (tablesOf types rows due) [] (typeEntries (tablesOf types rows due) type-count) n
+    through = rw r-is at (took rows due)
+
+    behind : AllBehind (typeEntries (tablesOf types rows due) type-count) (rowEntries (tablesOf types rows due) row-count) r′ types rows due
+    behind = took′ types (typeEntries (tablesOf types rows due) type-count) (through .held)
+
+    all : refusalOf (tableEntries (tablesOf types rows due) (countsOf type-count row-count)) ≡ firstRefusal (typeEntries (tablesOf types rows due) type-count) (rowEntries (tablesOf types rows due) row-count)
+    unfolding refusalOf tableEntries
+    all = through .first (rowEntries (tablesOf types rows due) row-count)
+
+    pub rows-refused : (x : Refusal) → r′ ≡ Refused x → NotAccepted x ≡ checking (refusalOf (tableEntries (tablesOf types rows due) (countsOf type-count row-count)))
+    rows-refused x e =
+        let g : firstRefusal (typeEntries (tablesOf types rows due) type-count) (rowEntries (tablesOf types rows due) row-count) ≡ some x = rw e at behind in
+        rw (all, g)
+
+    pub rows-accepted : (m : Passed) → r′ ≡ Taken m → Accepted ≡ checking (refusalOf (tableEntries (tablesOf types rows due) (countsOf type-count row-count)))
+    rows-accepted m e =
+        let es = typeEntries (tablesOf types rows due) type-count in
+        let more = rowEntries (tablesOf types rows due) row-count in
+        let g : (firstRefusal es more ≡ none) × Holds (es ++ more) types rows due m = rw e at behind in
+        rw (all, g .0)
+
+pub few-taken : (r : Taking) (n : Passed) → r ≡ Taken n → FewTaken r → FewPassed n × (n .rows ≡ 0)
+few-taken r n e h = rw e at h
+
+-- ---- 7 first
+module _ (short : Bool) (types rows : List ℕ) (due : List ℤ) (n : Counts) (s : Bool) (s-is : s ≡ (ltb (length types) 12 || (ltb (length rows) 1536 || ltb (length due) 256))) where
+  pub short-checked : s ≡ true → NotAccepted Short ≡ checking (tablesRefusal short (tablesOf types rows due) n)
+  unfolding tablesRefusal shortTables
+  short-checked t = rw (sym s-is ∙ t)
+
+  pub own-checked : s ≡ false → short ≡ true → NotAccepted Short ≡ checking (tablesRefusal short (tablesOf types rows due) n)
+  unfolding tablesRefusal shortTables
+  own-checked f t = rw (sym s-is ∙ f, t)
+
+  pub net-checked : (r : Checking) → s ≡ false → short ≡ false → r ≡ checking (refusalOf (tableEntries (tablesOf types rows due) n)) → r ≡ checking (tablesRefusal short (tablesOf types rows due) n)
+  unfolding tablesRefusal shortTables
+  net-checked r f g e = rw (sym s-is ∙ f, g) e
+
+-- ---- the promise
+settled : (o : Option Refusal) (r : Checking) → r ≡ checking o → Settled o (λ x. checkFigures r ≡ refused tt x) (checkFigures r ≡ done tt)
+unfolding checkFigures
+settled none r e = rw e
+settled (some x) r e = rw e
+
+pub promise-kept : (t : Tables) (n : Counts) (r : Checking) → r ≡ checking (tablesRefusal false t n) → CheckPromise t n r
+unfolding CheckPromise
+promise-kept t n r e = settled (tablesRefusal false t n) r e

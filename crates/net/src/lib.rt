@@ -1,0 +1,145 @@
+// A net read from text, and a net given as tables. Both go entry by entry: a line of the text, or the words of a table's entry, becomes
+// a Line by value; the checks of one Line are shared; and what has passed is counted.
+use reads::read_into;
+use rules::Checking;
+use rules::Femtofarad;
+use rules::Femtosecond;
+use rules::Ohm;
+use rules::Pin;
+use rules::Reading;
+use rules::Refusal;
+use tables::take_net;
+ghost use mathlib.Core.Path.{_≡_};
+ghost use mathlib.Core.Bool.{_||_};
+ghost use lib.Dec.{ltb};
+ghost use Rattle.rules.specs.Promises.{ReadPromise, CheckPromise, tablesRefusal};
+ghost use Rattle.net.specs.Checks.{checking};
+ghost use Rattle.net.specs.TableSteps.{tablesOf, countsOf};
+
+pub mod areas;
+mod below;
+mod checks;
+pub mod entries;
+mod lines;
+mod reads;
+mod tables;
+
+// Words of a type and of a row in the tables.
+pub const TYPE_WORDS: usize = 3;
+
+pub const ROW_WORDS: usize = 6;
+
+// Room: types and rows.
+pub const TYPES_ROOM: usize = 4;
+
+pub const ROWS_ROOM: usize = 256;
+
+// A type of repeater.
+pub struct Repeater {
+    pub input: Femtofarad,
+    pub resistance: Ohm,
+    pub own: Femtosecond,
+}
+
+// The wire of a row: the row above it, and what is there. The site is still a field's number.
+pub struct Wire {
+    pub parent: u32,
+    pub resistance: Ohm,
+    pub capacitance: Femtofarad,
+    pub site: u32,
+}
+
+// What a line states, or the refusal of its form.
+pub enum Line {
+    Repeater(Repeater),
+    Driver(Ohm),
+    Point(Wire),
+    Sink(Wire, Pin),
+    Refused(Refusal),
+}
+
+// How many types, rows and sites have passed.
+pub struct Passed {
+    pub types: usize,
+    pub rows: usize,
+    pub sites: usize,
+}
+
+// What taking a line gives, or all lines: what has passed then, or the refusal.
+pub enum Taking {
+    Taken(Passed),
+    Refused(Refusal),
+}
+
+// Room: bytes of a text.
+const TEXT_ROOM: usize = 32_768;
+
+// An area is shorter than its room.
+fn short_areas(types: usize, rows: usize, due: usize) -> bool
+    ensures { λ r. ⌜ r ≡ (ltb types 12 || (ltb rows 1536 || ltb due 256)) ⌝ }
+{
+    if types < TYPE_WORDS * TYPES_ROOM {
+        return true;
+    }
+    if rows < ROW_WORDS * ROWS_ROOM {
+        return true;
+    }
+    due < ROWS_ROOM
+}
+
+// A net as text, read into the lent areas. A refusal leaves them as they were.
+pub fn read_net(text: &[u8], types: &mut [u32], rows: &mut [u32], due: &mut [i64]) -> Reading
+    ensures { λ r. ⌜ ReadPromise (now (text .entry)) (tablesOf (now (types .entry)) (now (rows .entry)) (now (due .entry))) r (tablesOf (now (types .exit)) (now (rows .exit)) (now (due .exit))) ⌝ }
+{
+    if short_areas(types.len(), rows.len(), due.len()) {
+        return Reading::Refused(Refusal::Short);
+    }
+    if TEXT_ROOM < text.len() {
+        return Reading::Refused(Refusal::Room(0));
+    }
+    let mut type_words = [0u32; 12];
+    let mut row_words = [0u32; 1536];
+    let mut times = [0i64; 256];
+    read_into(
+        text,
+        &mut type_words[..],
+        &mut row_words[..],
+        &mut times[..],
+        types,
+        rows,
+        due,
+    )
+}
+
+// The refusal of a net given as tables: 7 also where an area of the caller's own is short, then entry by entry.
+pub fn check_tables(
+    short: bool,
+    types: &[u32],
+    rows: &[u32],
+    due: &[i64],
+    type_count: usize,
+    row_count: usize,
+) -> Checking
+    ensures { λ r. ⌜ r ≡ checking (tablesRefusal short (tablesOf (now (types .entry)) (now (rows .entry)) (now (due .entry))) (countsOf «type_count» «row_count»)) ⌝ }
+{
+    if short_areas(types.len(), rows.len(), due.len()) {
+        return Checking::Refused(Refusal::Short);
+    }
+    if short {
+        return Checking::Refused(Refusal::Short);
+    }
+    take_net(types, rows, due, type_count, row_count)
+}
+
+// A net given as tables, checked.
+pub fn check_net(
+    types: &[u32],
+    rows: &[u32],
+    due: &[i64],
+    type_count: usize,
+    row_count: usize,
+) -> Checking
+    ensures { λ r. ⌜ CheckPromise (tablesOf (now (types .entry)) (now (rows .entry)) (now (due .entry))) (countsOf «type_count» «row_count») r ⌝ }
+{
+    check_tables(false, types, rows, due, type_count, row_count)
+}

@@ -1,0 +1,186 @@
+// A reader for each kind of line. A number too large for any range is cut to one that is still out of range.
+use super::Line;
+use super::Repeater;
+use super::Wire;
+use rules::Femtofarad;
+use rules::Femtosecond;
+use rules::Ohm;
+use rules::Pin;
+use rules::Refusal;
+use text::Field;
+use text::SignedField;
+use text::field_at;
+use text::number_at;
+use text::signed_at;
+ghost use mathlib.Core.Path.{_≡_};
+ghost use Prim.Native.Nat.{_+_, _≤_, _<_};
+ghost use lib.ListN.{length};
+ghost use lib.IntN.{pos};
+ghost use Rattle.rules.specs.Text.{typeLine, driverLine, pointLine, sinkLine, lineOf, parted};
+ghost use Rattle.text.specs.Stretches.{tab};
+ghost use Rattle.text.specs.Fields.{fieldsFrom, fieldAt};
+ghost use Rattle.net.specs.Lines.{word, repeaterOf, wireOf, pinOf, capped, lineFor, letterOf};
+
+// Above the range of every word.
+const WORD_CAP: u64 = 2_000_000_000;
+
+fn word_of(n: u64) -> u32
+    ensures { λ r. ⌜ r ≡ word n ⌝ }
+{
+    if n < WORD_CAP {
+        return n as u32;
+    }
+    2_000_000_000
+}
+
+pub fn repeater(input: u32, resistance: u32, own: u32) -> Repeater
+    ensures { λ r. ⌜ r ≡ repeaterOf input resistance own ⌝ }
+{
+    Repeater {
+        input: Femtofarad(input),
+        resistance: Ohm(resistance),
+        own: Femtosecond(own as i64),
+    }
+}
+
+fn repeater_read(input: u64, resistance: u64, own: u64) -> Repeater
+    ensures { λ r. ⌜ r ≡ repeaterOf (word input) (word resistance) (word own) ⌝ }
+{
+    repeater(word_of(input), word_of(resistance), word_of(own))
+}
+
+fn wire_read(parent: u64, resistance: u64, capacitance: u64, site: u64) -> Wire
+    ensures { λ r. ⌜ r ≡ wireOf (word parent) (word resistance) (word capacitance) (word site) ⌝ }
+{
+    let above = word_of(parent);
+    let ohms = word_of(resistance);
+    let farads = word_of(capacitance);
+    let sites = word_of(site);
+    Wire {
+        parent: above,
+        resistance: Ohm(ohms),
+        capacitance: Femtofarad(farads),
+        site: sites,
+    }
+}
+
+fn pin_read(load: u64, due: i64) -> Pin
+    ensures { λ r. ⌜ r ≡ pinOf (word load) due ⌝ }
+{
+    let farads = word_of(load);
+    Pin {
+        load: Femtofarad(farads),
+        due: Femtosecond(due),
+    }
+}
+
+fn type_line(line: &[u8], place: u32) -> Line
+    ensures { λ r. ⌜ r ≡ lineFor place (capped (typeLine (fieldsFrom (now (line .entry)) 2))) ⌝ }
+{
+    let Field::Number(input, at) = number_at(line, 2) else {
+        return Line::Refused(Refusal::Form(place));
+    };
+    let Field::Number(resistance, at) = number_at(line, at) else {
+        return Line::Refused(Refusal::Form(place));
+    };
+    let Field::Number(own, at) = number_at(line, at) else {
+        return Line::Refused(Refusal::Form(place));
+    };
+    if at <= line.len() {
+        return Line::Refused(Refusal::Form(place));
+    }
+    Line::Repeater(repeater_read(input, resistance, own))
+}
+
+fn driver_line(line: &[u8], place: u32) -> Line
+    ensures { λ r. ⌜ r ≡ lineFor place (capped (driverLine (fieldsFrom (now (line .entry)) 2))) ⌝ }
+{
+    let Field::Number(resistance, at) = number_at(line, 2) else {
+        return Line::Refused(Refusal::Form(place));
+    };
+    if at <= line.len() {
+        return Line::Refused(Refusal::Form(place));
+    }
+    let ohms = word_of(resistance);
+    Line::Driver(Ohm(ohms))
+}
+
+fn point_line(line: &[u8], place: u32) -> Line
+    ensures { λ r. ⌜ r ≡ lineFor place (capped (pointLine (fieldsFrom (now (line .entry)) 2))) ⌝ }
+{
+    let Field::Number(parent, at) = number_at(line, 2) else {
+        return Line::Refused(Refusal::Form(place));
+    };
+    let Field::Number(resistance, at) = number_at(line, at) else {
+        return Line::Refused(Refusal::Form(place));
+    };
+    let Field::Number(capacitance, at) = number_at(line, at) else {
+        return Line::Refused(Refusal::Form(place));
+    };
+    let Field::Number(site, at) = number_at(line, at) else {
+        return Line::Refused(Refusal::Form(place));
+    };
+    if at <= line.len() {
+        return Line::Refused(Refusal::Form(place));
+    }
+    Line::Point(wire_read(parent, resistance, capacitance, site))
+}
+
+fn sink_line(line: &[u8], place: u32) -> Line
+    ensures { λ r. ⌜ r ≡ lineFor place (capped (sinkLine (fieldsFrom (now (line .entry)) 2))) ⌝ }
+{
+    let Field::Number(parent, at) = number_at(line, 2) else {
+        return Line::Refused(Refusal::Form(place));
+    };
+    let Field::Number(resistance, at) = number_at(line, at) else {
+        return Line::Refused(Refusal::Form(place));
+    };
+    let Field::Number(capacitance, at) = number_at(line, at) else {
+        return Line::Refused(Refusal::Form(place));
+    };
+    let Field::Number(site, at) = number_at(line, at) else {
+        return Line::Refused(Refusal::Form(place));
+    };
+    let Field::Number(load, at) = number_at(line, at) else {
+        return Line::Refused(Refusal::Form(place));
+    };
+    let SignedField::Number(due, at) = signed_at(line, at) else {
+        return Line::Refused(Refusal::Form(place));
+    };
+    if at <= line.len() {
+        return Line::Refused(Refusal::Form(place));
+    }
+    let wire = wire_read(parent, resistance, capacitance, site);
+    Line::Sink(wire, pin_read(load, due))
+}
+
+// The letter that a line starts with, where its first field is one byte.
+fn letter_of(line: &[u8]) -> u8
+    ensures { λ r. ⌜ r ≡ letterOf (fieldAt (now (line .entry)) 0) ⌝ }
+{
+    let first = field_at(line, 0);
+    if first.len() == 1 {
+        return first[0];
+    }
+    0
+}
+
+// What a line states, by its letter.
+pub fn read_line(line: &[u8], place: u32) -> Line
+    ensures { λ r. ⌜ r ≡ lineFor place (capped (lineOf (parted tab (now (line .entry))))) ⌝ }
+{
+    let letter = letter_of(line);
+    if letter == b'T' {
+        return type_line(line, place);
+    }
+    if letter == b'D' {
+        return driver_line(line, place);
+    }
+    if letter == b'W' {
+        return point_line(line, place);
+    }
+    if letter == b'S' {
+        return sink_line(line, place);
+    }
+    Line::Refused(Refusal::Form(place))
+}

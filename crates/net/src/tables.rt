@@ -1,0 +1,105 @@
+// A net given as tables, entry by entry.
+use super::Line;
+use super::Passed;
+use super::ROWS_ROOM;
+use super::TYPES_ROOM;
+use super::Taking;
+use super::areas::passed_with;
+use super::below::finish;
+use super::checks::check_line;
+use super::checks::check_type;
+use super::checks::place_of;
+use super::entries::row_line;
+use super::entries::type_at;
+use rules::Checking;
+use rules::Refusal;
+ghost use mathlib.Core.Path.{_≡_};
+ghost use Prim.Native.Nat.{_≤_, min};
+ghost use lib.ListN.{length};
+ghost use Rattle.rules.specs.Tables.{tableEntries};
+ghost use Rattle.rules.specs.Refusals.{refusalOf};
+ghost use Rattle.net.specs.Checks.{FewPassed, checking};
+ghost use Rattle.net.specs.Steps.{Rooms};
+ghost use Rattle.net.specs.TableSteps.{tablesOf, countsOf, FewTaken, TypesTaken, RowsTaken};
+
+fn fewer(count: usize, room: usize) -> usize
+    ensures { λ r. ⌜ r ≡ min count room ⌝ }
+{
+    if count < room {
+        return count;
+    }
+    room
+}
+
+// The types, as many as are counted; the first past the room is refused unread.
+pub fn take_types(types: &[u32], count: usize) -> Taking
+    requires { ⌜ 12 ≤ length (now types) ⌝ }
+    ensures few { λ r. ⌜ FewTaken r ⌝ }
+    ensures passes { λ r. ⌜ TypesTaken (now (types .entry)) count r ⌝ }
+{
+    let mut n = Passed {
+        types: 0,
+        rows: 0,
+        sites: 0,
+    };
+    let mut i = 0;
+    let end = fewer(count, TYPES_ROOM);
+    while i < end {
+        let t = type_at(types, i);
+        match check_type(n, t) {
+            Checking::Refused(r) => return Taking::Refused(r),
+            Checking::Accepted => {
+                n = passed_with(n, Line::Repeater(t));
+                i += 1;
+            }
+        }
+    }
+    if TYPES_ROOM < count {
+        return Taking::Refused(Refusal::Room(place_of(n)));
+    }
+    Taking::Taken(n)
+}
+
+// The rows, as many as are counted; the first past the room is refused unread. Then the checks after the last.
+pub fn take_rows(rows: &[u32], due: &[i64], n: Passed, count: usize) -> Taking
+    requires { ⌜ (FewPassed n × (n .rows ≡ 0)) × ((1536 ≤ length (now rows)) × (256 ≤ length (now due))) ⌝ }
+    ensures { λ r. ⌜ RowsTaken (now (rows .entry)) (now (due .entry)) n count r ⌝ }
+{
+    let mut m = n;
+    let mut i = 0;
+    let end = fewer(count, ROWS_ROOM);
+    while i < end {
+        let line = row_line(rows, due, i, place_of(m));
+        match check_line(rows, m, line) {
+            Checking::Refused(r) => return Taking::Refused(r),
+            Checking::Accepted => {
+                m = passed_with(m, line);
+                i += 1;
+            }
+        }
+    }
+    if ROWS_ROOM < count {
+        return Taking::Refused(Refusal::Room(place_of(m)));
+    }
+    finish(rows, m)
+}
+
+// All entries of the tables, types first.
+pub fn take_net(
+    types: &[u32],
+    rows: &[u32],
+    due: &[i64],
+    type_count: usize,
+    row_count: usize,
+) -> Checking
+    requires { ⌜ Rooms (now types) (now rows) (now due) ⌝ }
+    ensures { λ r. ⌜ r ≡ checking (refusalOf (tableEntries (tablesOf (now (types .entry)) (now (rows .entry)) (now (due .entry))) (countsOf «type_count» «row_count»))) ⌝ }
+{
+    match take_types(types, type_count) {
+        Taking::Refused(r) => Checking::Refused(r),
+        Taking::Taken(n) => match take_rows(rows, due, n, row_count) {
+            Taking::Refused(r) => Checking::Refused(r),
+            Taking::Taken(_) => Checking::Accepted,
+        },
+    }
+}

@@ -1,0 +1,9 @@
+pub mod Shown
+pub mod Made
+pub mod Steps
+pub mod Links
+pub mod Recursion
+pub mod Code
+pub mod Chosen
+pub mod Promised
+pub mod Refusing

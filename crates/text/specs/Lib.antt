@@ -1,0 +1,3 @@
+pub mod Stretches
+pub mod Numbers
+pub mod Fields
