@@ -2,13 +2,49 @@
 use crate::asking;
 use crate::numbers;
 use crate::saying;
+use crate::stamps;
 use crate::tables;
 use numbers::Number;
 use tables::Taken;
+ghost use Prim.Native.Nat.{_<_};
 
 const LINE_FEED: u8 = b'\n';
 
 const BLANK: u8 = b' ';
+
+// The words of the requests, each as the number that its bytes make.
+const CASE: u64 = 0x63617365;
+
+const TEXT: u64 = 0x74657874;
+
+const BYTES: u64 = 0x6279746573;
+
+const TYPES: u64 = 0x7479706573;
+
+const ROWS: u64 = 0x726f7773;
+
+const DUE: u64 = 0x647565;
+
+const AREAS: u64 = 0x6172656173;
+
+const COUNTS: u64 = 0x636f756e7473;
+
+const READ: u64 = 0x72656164;
+
+const CHECK: u64 = 0x636865636b;
+
+const SLACK: u64 = 0x736c61636b;
+
+const PLAN: u64 = 0x706c616e;
+
+const MARKS: u64 = 0x6d61726b73;
+
+const PLANNED: u64 = 0x706c616e6e6564;
+
+const LIST: u64 = 0x6c697374;
+
+// The greatest number that takes one byte more.
+const MOST_CODE: u64 = 0xff_ffff_ffff_ffff;
 
 const TYPES_LENT: usize = 12;
 
@@ -93,62 +129,46 @@ fn word_end(s: &[u8], from: usize) -> usize {
     i
 }
 
-fn setting(w: &[u8]) -> Word {
-    if check::same(w, b"case") {
-        return Word::Case;
-    }
-    if check::same(w, b"text") {
-        return Word::Text;
-    }
-    if check::same(w, b"bytes") {
-        return Word::Bytes;
-    }
-    if check::same(w, b"types") {
-        return Word::Types;
-    }
-    if check::same(w, b"rows") {
-        return Word::Rows;
-    }
-    if check::same(w, b"due") {
-        return Word::Due;
-    }
-    if check::same(w, b"areas") {
-        return Word::Areas;
-    }
-    if check::same(w, b"counts") {
-        return Word::Counts;
-    }
-    Word::None
+fn wide(b: u8) -> u64
+    ensures { λ r. ⌜ r < 256 ⌝ }
+{
+    b as u64
 }
 
-fn question(w: &[u8]) -> Word {
-    if check::same(w, b"read") {
-        return Word::Read;
+// The bytes of a stretch as one number, 0 where they are too many: so a word is known by one comparison.
+fn code(s: &[u8], from: usize, to: usize) -> u64 {
+    let end = stamps::least(to, s.len());
+    let mut n: u64 = 0;
+    let mut i = from;
+    while i < end {
+        if MOST_CODE < n {
+            return 0;
+        }
+        n = 256 * n + wide(s[i]);
+        i += 1;
     }
-    if check::same(w, b"check") {
-        return Word::Check;
-    }
-    if check::same(w, b"slack") {
-        return Word::Slack;
-    }
-    if check::same(w, b"plan") {
-        return Word::Plan;
-    }
-    if check::same(w, b"marks") {
-        return Word::Marks;
-    }
-    if check::same(w, b"planned") {
-        return Word::Planned;
-    }
-    if check::same(w, b"list") {
-        return Word::List;
-    }
-    Word::None
+    n
 }
 
-fn word_of(w: &[u8]) -> Word {
-    let word = setting(w);
-    if let Word::None = word { question(w) } else { word }
+fn word_of(n: u64) -> Word {
+    match n {
+        CASE => Word::Case,
+        TEXT => Word::Text,
+        BYTES => Word::Bytes,
+        TYPES => Word::Types,
+        ROWS => Word::Rows,
+        DUE => Word::Due,
+        AREAS => Word::Areas,
+        COUNTS => Word::Counts,
+        READ => Word::Read,
+        CHECK => Word::Check,
+        SLACK => Word::Slack,
+        PLAN => Word::Plan,
+        MARKS => Word::Marks,
+        PLANNED => Word::Planned,
+        LIST => Word::List,
+        _ => Word::None,
+    }
 }
 
 // How many numbers the request has.
@@ -199,16 +219,6 @@ fn numbers_at(s: &[u8], from: usize, n: &mut [u64; 6]) -> Line {
         i += 1;
     }
     line_end(s, at, i)
-}
-
-fn word_at(s: &[u8], from: usize, to: usize) -> Word {
-    if to < from {
-        return Word::None;
-    }
-    if s.len() < to {
-        return Word::None;
-    }
-    word_of(&s[from..to])
 }
 
 fn moved(p: Place, at: usize) -> Place {
@@ -350,7 +360,7 @@ pub fn next_request(
 ) -> Step {
     let from = p.at;
     let end = word_end(s, from);
-    let word = word_at(s, from, end);
+    let word = word_of(code(s, from, end));
     if let Word::Case = word {
         return named(s, p, end);
     }

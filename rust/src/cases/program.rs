@@ -132,9 +132,9 @@ pub fn script() -> Script {
     for case in plan_cases() {
         plan_case(&mut script, case);
     }
-    for case in plan_cases().take(1) {
-        lengths(&mut script, case);
-    }
+    let net_a = plan_cases().next().expect("net A is the first");
+    lengths(&mut script, net_a);
+    counts(&mut script, net_a);
     script
 }
 
@@ -150,7 +150,8 @@ fn every_entry(script: &mut Script, tables: &TableWords) {
 fn slack(script: &mut Script, tables: &TableWords, length: usize, placement: [u64; 4]) {
     let lent = [&placement[..], &[5, 6]].concat();
     let answer = Reference.slack_of(tables.lent(), &lent[..length]);
-    let answer = answer.map_or_else(|refusal| refusal.to_string(), |found| pair(found.slack, found.load));
+    let answer =
+        answer.map_or_else(|refusal| refusal.to_string(), |found| pair(found.slack, found.load));
     script.ask(&format!("slack {length} {}", words(placement)), &answer);
 }
 
@@ -252,6 +253,23 @@ fn lengths(script: &mut Script, case: &PlanCase) {
             list(script, tables, 1, pairs, LONGER);
         }
         list(script, tables, 9, [256, 257], ROOM);
+        list(script, tables, usize::MAX, [room::LIST; 2], ROOM);
+    }
+}
+
+/// Counts that only 64 bits hold.
+fn counts(script: &mut Script, case: &PlanCase) {
+    let mut tables = Net::read(&recipe::make(case.recipe)).expect("a good net").tables();
+    for (name, types, rows) in [
+        ("counts-types-64-bits", usize::MAX, 3),
+        ("counts-rows-64-bits", 1, usize::MAX),
+        ("counts-types-past-32-bits", (1 << 32) + 1, 3),
+        ("counts-rows-past-32-bits", 1, (1 << 32) + 3),
+    ] {
+        (tables.type_count, tables.row_count) = (types, rows);
+        script.case(name);
+        script.tables(&tables);
+        every_entry(script, &tables);
     }
 }
 
@@ -262,7 +280,5 @@ fn near(lengths: [usize; 4]) -> Vec<[usize; 4]> {
         changed[at] = to;
         changed
     };
-    (0..4)
-        .flat_map(|at| [lengths[at] - 1, 0, lengths[at] + 1].map(|to| changed(at, to)))
-        .collect()
+    (0..4).flat_map(|at| [lengths[at] - 1, 0, lengths[at] + 1].map(|to| changed(at, to))).collect()
 }
