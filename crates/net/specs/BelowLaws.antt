@@ -1,31 +1,27 @@
 -- The first childless row from the last row back, and finishing. Assumes nothing.
 use mathlib.Core.Path.{_≡_, refl, sym, ap, _∙_}
-use mathlib.Core.Bool.{Bool, true, false, cond, not, _&&_, _||_}
-use mathlib.Core.List.{List, [], _∷_, _++_}
+use mathlib.Core.Bool.{Bool, true, false, cond, not, _||_}
+use mathlib.Core.List.{List, [], _∷_}
 use mathlib.Core.Option.{Option, none, some}
-use Prim.Native.Nat.{ℕ, zero, suc, _+_, _*_, _-_, _≤_, _<_}
+use Prim.Native.Nat.{ℕ, zero, suc, _+_, _*_, _≤_, _<_}
 use native.Mathlib.Omega.{arith}
 use native.Mathlib.Numerals.{add-one}
-use lib.Dec.{ltb, leb, eqb}
+use lib.Dec.{ltb, eqb}
 use lib.IntN.{ℤ}
-use lib.ListN.{length, take, drop, set, getD, length-set, replicate, getD-replicate, length-replicate, drop-of-length-le}
-use lib.Seq.{drop-cons, drop-length, getD-set-same, getD-set-other, getD-take}
-use borrow.Author.Tests.{lt-ltb, le-ltb, eq-eqb, ne-eqb, eqb-true, eqb-false, ltb-true, ltb-false}
-use Rattle.rules.specs.declared.Kind.{Kind}
-use Rattle.rules.specs.declared.Kind.the-variants.{Driver, Point, Sink}
+use lib.ListN.{length, take, drop, getD, length-set, replicate, getD-replicate, length-replicate, drop-of-length-le}
+use lib.Seq.{drop-cons, getD-set-same, getD-set-other, getD-take}
+use borrow.Author.Tests.{lt-ltb, eqb-true, eqb-false}
+use Rattle.rules.specs.declared.Kind.the-variants.{Driver}
 use Rattle.rules.specs.declared.Row.{Row}
-use Rattle.rules.specs.declared.Refusal.{Refusal}
 use Rattle.rules.specs.declared.Refusal.the-variants.{Form, Childless}
 use Rattle.rules.specs.Lists.{orElse, when}
 use Rattle.rules.specs.Entries.{Entry, typesOf, rowsOf, rowOf}
 use Rattle.rules.specs.Refusals.{some?, isSink, under, childless, childlessAt, lineOfRow, lastRefusal}
-use Rattle.rules.specs.Promises.{rowTable, kindWord, Settled}
+use Rattle.rules.specs.Promises.{rowTable, kindWord}
 use Rattle.text.specs.Stretches.{either, absurd}
 use Rattle.net.specs.declared.Passed.{Passed}
 use Rattle.net.specs.declared.below.Found.{Found}
 use Rattle.net.specs.declared.below.Found.the-variants.{At, Nothing}
-use Rattle.net.specs.declared.Taking.{Taking}
-use Rattle.net.specs.declared.Taking.the-variants.{Taken, Refused}
 use Rattle.net.specs.Checks.{placeAt}
 use Rattle.net.specs.Held.{Holds}
 use Rattle.net.specs.Below.{foundOf, foundWith, markedWith, marksOf, FirstChildless, FoundIn}

@@ -1,7 +1,7 @@
 -- A net given as tables, checked: the refusal of its types, of its rows behind them, and the promise of check_net. Assumes nothing.
-use mathlib.Core.Path.{_≡_, refl, sym, ap, _∙_}
+use mathlib.Core.Path.{_≡_, sym, _∙_}
 use mathlib.Core.Bool.{Bool, true, false, _||_}
-use mathlib.Core.List.{List, [], _∷_, _++_}
+use mathlib.Core.List.{List, [], _++_}
 use mathlib.Core.Option.{Option, none, some}
 use Prim.Native.Nat.{ℕ}
 use lib.Dec.{ltb}
@@ -12,7 +12,6 @@ use Rattle.rules.specs.declared.Refusal.the-variants.{Short}
 use Rattle.rules.specs.declared.Checking.{Checking}
 use Rattle.rules.specs.declared.Checking.the-variants.{Accepted}
 use Rattle.rules.specs.declared.Checking.the-variants.{Refused as NotAccepted}
-use Rattle.rules.specs.Lists.{orElse, when}
 use Rattle.rules.specs.Entries.{Entry}
 use Rattle.rules.specs.Tables.{Tables, Counts, shortTables, tableEntries}
 use Rattle.rules.specs.Refusals.{refusalOf, firstRefusal}

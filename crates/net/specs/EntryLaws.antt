@@ -1,17 +1,13 @@
 -- What the words of a row state, test by test. Assumes nothing.
 use mathlib.Core.Path.{_≡_, refl, sym, ap, _∙_}
-use mathlib.Core.Bool.{Bool, true, false, cond}
 use Prim.Native.Nat.{ℕ, zero, suc, _<_, _^_}
-use native.Mathlib.Omega.{arith}
-use lib.Dec.{eqb, eqb·suc-zero}
+use lib.Dec.{eqb·suc-zero}
 use lib.IntN.{ℤ, pos, negsuc}
 use lib.Signed.{mag}
 use mir.Syntax.{w64}
 use mir.Val.{toZ, ofZ}
-use borrow.Author.Tests.{eq-eqb, ne-eqb}
-use Rattle.rules.specs.declared.Refusal.{Refusal}
-use Rattle.rules.specs.declared.Refusal.the-variants.{Form}
-use Rattle.rules.specs.Entries.{Entry, driver, point, sink, malformed}
+use borrow.Author.Tests.{ne-eqb}
+use Rattle.rules.specs.Entries.{driver, point, sink, malformed}
 use Rattle.rules.specs.Tables.{isZero, rowBy}
 use Rattle.text.specs.Stretches.{absurd}
 use Rattle.text.specs.Numbers.{bits-back}

@@ -1,10 +1,10 @@
 -- What reading leaves in the lent areas: the entries of the text at their start where nothing is refused, and else what was there.
 -- Assumes nothing.
-use mathlib.Core.Path.{_≡_, refl, sym, ap, _∙_}
-use mathlib.Core.Bool.{Bool, true, false, cond, _||_}
-use mathlib.Core.List.{List, [], _∷_, _++_}
-use mathlib.Core.Option.{Option, none, some}
-use Prim.Native.Nat.{ℕ, _+_, _*_, _≤_, _<_}
+use mathlib.Core.Path.{_≡_, refl, sym, _∙_}
+use mathlib.Core.Bool.{Bool, true, false, _||_}
+use mathlib.Core.List.{List, [], _++_}
+use mathlib.Core.Option.{none, some}
+use Prim.Native.Nat.{ℕ, _*_, _≤_, _<_}
 use native.Mathlib.Omega.{arith}
 use lib.Dec.{ltb}
 use lib.IntN.{ℤ}
@@ -16,19 +16,19 @@ use Rattle.rules.specs.declared.Refusal.the-variants.{Room, Short}
 use Rattle.rules.specs.declared.Reading.{Reading}
 use Rattle.rules.specs.declared.Reading.the-variants.{Read}
 use Rattle.rules.specs.declared.Reading.the-variants.{Refused as NotRead}
-use Rattle.rules.specs.Lists.{written, orElse, when}
+use Rattle.rules.specs.Lists.{written}
 use Rattle.rules.specs.Entries.{Entry, typesOf, rowsOf}
 use Rattle.rules.specs.Text.{textEntries}
-use Rattle.rules.specs.Tables.{Tables, Counts, shortTables}
+use Rattle.rules.specs.Tables.{Tables, shortTables}
 use Rattle.rules.specs.Refusals.{refusalOf, firstRefusal}
-use Rattle.rules.specs.Answers.{Figures, refused, done, noCounts, readFigures}
+use Rattle.rules.specs.Answers.{refused, done, noCounts, readFigures}
 use Rattle.rules.specs.Promises.{Settled, typeTable, rowTable, dueTable, filled, readRefusal, ReadPromise}
 use Rattle.net.specs.declared.Passed.{Passed}
 use Rattle.net.specs.declared.Taking.{Taking}
 use Rattle.net.specs.declared.Taking.the-variants.{Taken, Refused}
 use Rattle.net.specs.Checks.{FewPassed}
 use Rattle.net.specs.Held.{Holds}
-use Rattle.net.specs.Steps.{Rooms, AllTaken, AllBehind}
+use Rattle.net.specs.Steps.{Rooms, AllTaken}
 use Rattle.net.specs.TableSteps.{tablesOf}
 use Rattle.net.specs.Cut.{or-left, or-right}
 

@@ -1,24 +1,22 @@
 -- The areas hold one entry more: what an entry adds to the types and rows, and that a line that was not refused and was stored is held.
 -- Assumes nothing.
 use mathlib.Core.Path.{_≡_, refl, sym, ap, _∙_}
-use mathlib.Core.Bool.{Bool, true, false, cond, not, _&&_, _||_}
-use mathlib.Core.List.{List, [], _∷_, _++_, map, append-nil}
-use mathlib.Core.Option.{Option, none, some}
-use Prim.Native.Nat.{ℕ, zero, suc, _+_, _*_, _≤_, _<_}
+use mathlib.Core.Bool.{Bool, false, cond, _&&_, _||_}
+use mathlib.Core.List.{List, [], _∷_, _++_}
+use mathlib.Core.Option.{none}
+use Prim.Native.Nat.{ℕ, _+_, _*_, _<_}
 use native.Mathlib.Omega.{arith}
 use lib.Dec.{ltb, leb, eqb}
 use lib.Signed.{ltZ}
 use lib.IntN.{ℤ, pos, negsuc}
 use lib.ListN.{length, take, length-append}
-use borrow.Author.Tests.{eq-eqb, ne-eqb, ltb-false, leb-false, eqb-true, eqb-false}
-use Rattle.rules.specs.declared.Kind.{Kind}
+use borrow.Author.Tests.{ltb-false, leb-false, eqb-true, eqb-false}
 use Rattle.rules.specs.declared.Kind.the-variants.{Driver, Point, Sink}
 use Rattle.rules.specs.declared.Row.{Row}
-use Rattle.rules.specs.declared.Checking.{Checking}
 use Rattle.rules.specs.declared.Checking.the-variants.{Accepted}
 use Rattle.rules.specs.Quantities.{mostOhms, mostFemtofarads, mostOwn, earliestDue, latestDue}
-use Rattle.rules.specs.Entries.{Entry, Repeater, type, driver, point, sink, malformed, beyond, typesOf, rowsOf, rowOf, sitesOf, siteCount}
-use Rattle.rules.specs.Refusals.{some?, wireOut, misplaced, outOfRange, tooMany, orphan, lineRefusal}
+use Rattle.rules.specs.Entries.{Entry, Repeater, type, driver, point, sink, malformed, beyond, typesOf, rowsOf, rowOf, sitesOf}
+use Rattle.rules.specs.Refusals.{wireOut, misplaced, outOfRange, tooMany, lineRefusal}
 use Rattle.rules.specs.Promises.{typeTable, rowTable, dueTable, dueOf}
 use Rattle.text.specs.Stretches.{either, absurd}
 use Rattle.net.specs.declared.Repeater.{Repeater as Rep}

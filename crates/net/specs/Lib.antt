@@ -19,3 +19,4 @@ pub mod Filled
 pub mod TableLaws
 pub mod RowLaws
 pub mod CheckLaws
+pub mod Accepted

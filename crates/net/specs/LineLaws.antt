@@ -12,9 +12,8 @@ use borrow.Author.Tests.{ne-eqb}
 use mir.Syntax.{w64}
 use mir.Val.{toZ, ofZ}
 use Rattle.rules.specs.declared.Pin.{Pin}
-use Rattle.rules.specs.declared.Refusal.{Refusal}
-use Rattle.rules.specs.declared.Refusal.the-variants.{Form, Room}
-use Rattle.rules.specs.Entries.{Entry, type, driver, point, sink, malformed, beyond}
+use Rattle.rules.specs.declared.Refusal.the-variants.{Form}
+use Rattle.rules.specs.Entries.{Entry, type, driver, point, sink, malformed}
 use Rattle.rules.specs.Text.{parted, number, signed, after, end, _>>=_, typeLine, driverLine, pointLine, sinkLine, lettered, lineOf}
 use Rattle.text.specs.declared.Field.{Field}
 use Rattle.text.specs.declared.Field.the-variants.{Number, Bad}

@@ -1,24 +1,22 @@
 -- The checks of a line by number are those of the refusal list, behind entries that the areas hold. Assumes nothing.
 use mathlib.Core.Path.{_≡_, refl, sym, ap, _∙_}
-use mathlib.Core.Bool.{Bool, true, false, cond, not, _&&_, _||_}
+use mathlib.Core.Bool.{Bool, true, false, not, _&&_, _||_}
 use mathlib.Core.List.{List, [], _∷_, _++_}
 use mathlib.Core.Option.{Option, none, some}
-use Prim.Native.Nat.{ℕ, zero, suc, _+_, _*_, _≤_, _<_}
+use Prim.Native.Nat.{ℕ, zero, suc, _+_, _*_}
 use native.Mathlib.Omega.{arith}
 use lib.Dec.{ltb, leb, eqb, leb·suc-suc}
-use lib.IntN.{ℤ, pos, negsuc}
-use lib.ListN.{length, take, getD}
+use lib.IntN.{ℤ}
+use lib.ListN.{length, take}
 use lib.Seq.{getD-take}
-use borrow.Author.Tests.{lt-ltb, le-ltb, eq-eqb, ne-eqb, ltb-true, ltb-false}
+use borrow.Author.Tests.{lt-ltb, le-ltb, ne-eqb, ltb-true}
 use Rattle.rules.specs.declared.Kind.{Kind}
 use Rattle.rules.specs.declared.Kind.the-variants.{Driver, Point, Sink}
 use Rattle.rules.specs.declared.Row.{Row}
 use Rattle.rules.specs.declared.Refusal.{Refusal}
-use Rattle.rules.specs.declared.Checking.{Checking}
 use Rattle.rules.specs.declared.Checking.the-variants.{Accepted}
 use Rattle.rules.specs.declared.Checking.the-variants.{Refused as NotAccepted}
-use Rattle.rules.specs.Lists.{orElse, when}
-use Rattle.rules.specs.Entries.{Entry, type, driver, point, sink, malformed, beyond, typesOf, rowsOf, sitesOf}
+use Rattle.rules.specs.Entries.{Entry, type, driver, point, sink, malformed, beyond, rowsOf, sitesOf}
 use Rattle.rules.specs.Refusals.{some?, isSink, misplaced, outOfRange, tooMany, orphan, noParent, lineRefusal, firstRefusal}
 use Rattle.rules.specs.Promises.{rowTable, kindWord}
 use Rattle.text.specs.Stretches.{either, absurd}

@@ -1,6 +1,6 @@
 -- The words of a table's entry, where its line is accepted, are those that the line would store. Assumes nothing.
 use mathlib.Core.Path.{_≡_, refl, sym, ap, _∙_}
-use mathlib.Core.List.{List, [], _∷_, _++_, append-nil}
+use mathlib.Core.List.{List, [], _∷_, append-nil}
 use Prim.Native.Nat.{ℕ, zero, suc, _+_, _*_, _≤_, _<_}
 use native.Mathlib.Omega.{arith}
 use native.Mathlib.Nat.{add-zero}
@@ -10,17 +10,16 @@ use lib.ListN.{length, take, getD}
 use borrow.Author.Tests.{eqb-true, eqb-false}
 use Rattle.rules.specs.declared.Checking.{Checking}
 use Rattle.rules.specs.declared.Checking.the-variants.{Accepted}
-use Rattle.rules.specs.declared.Refusal.the-variants.{Form}
-use Rattle.rules.specs.Entries.{Entry, malformed}
-use Rattle.rules.specs.Tables.{Tables, isZero, rowBy, rowEntry, typeEntry}
+use Rattle.rules.specs.Entries.{malformed}
+use Rattle.rules.specs.Tables.{isZero, rowBy, rowEntry, typeEntry}
 use Rattle.text.specs.Stretches.{either, absurd}
 use Rattle.net.specs.declared.Repeater.{Repeater}
 use Rattle.net.specs.declared.Passed.{Passed}
 use Rattle.net.specs.declared.Line.{Line}
-use Rattle.net.specs.declared.Line.the-variants.{Repeater as TypeLine, Refused as RefusedLine}
+use Rattle.net.specs.declared.Line.the-variants.{Repeater as TypeLine}
 use Rattle.net.specs.Lines.{repeaterOf, wireOf, pinOf, lineFor}
 use Rattle.net.specs.Checks.{checkOf}
-use Rattle.net.specs.Held.{Grown, countedWith, withRow, rowWordsOf, dueTimesOf, typeWordsOf}
+use Rattle.net.specs.Held.{Grown, countedWith, rowWordsOf, dueTimesOf, typeWordsOf}
 use Rattle.net.specs.Entries.{typeAt, rowEntryOf}
 use Rattle.net.specs.EntryLaws.{driver-parent, driver-capacitance, driver-site, driver-pin, driver-time, point-pin, point-time, other-row}
 use Rattle.net.specs.Words.{one-read, three-read, six-read}

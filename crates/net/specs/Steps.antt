@@ -1,14 +1,14 @@
 -- What taking one line gives, and all lines of a text. Assumes nothing.
 use mathlib.Core.Path.{_≡_}
 use mathlib.Core.List.{List, [], _∷_, _++_}
-use mathlib.Core.Option.{Option, none, some}
+use mathlib.Core.Option.{none, some}
 use Prim.Native.Nat.{ℕ, _≤_}
 use native.Mathlib.Omega.{arith}
 use lib.IntN.{ℤ}
 use lib.ListN.{length, drop}
 use Rattle.rules.specs.Entries.{Entry}
 use Rattle.rules.specs.Text.{parted, lineOf, linesOf, textEntries}
-use Rattle.rules.specs.Refusals.{lineRefusal, firstRefusal, refusalOf}
+use Rattle.rules.specs.Refusals.{lineRefusal, firstRefusal}
 use Rattle.text.specs.Stretches.{tab, lineFeed}
 use Rattle.net.specs.declared.Passed.{Passed}
 use Rattle.net.specs.declared.Taking.{Taking}

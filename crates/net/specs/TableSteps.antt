@@ -1,12 +1,11 @@
 -- What taking the types of a table gives, and then its rows. Assumes nothing.
 use mathlib.Core.Path.{_≡_}
-use mathlib.Core.List.{List, [], _∷_, _++_}
-use mathlib.Core.Option.{Option, none, some}
-use Prim.Native.Nat.{ℕ, _≤_}
+use mathlib.Core.List.{List, [], _++_}
+use mathlib.Core.Option.{some}
+use Prim.Native.Nat.{ℕ}
 use lib.IntN.{ℤ}
-use lib.ListN.{length}
 use Rattle.rules.specs.Entries.{Entry}
-use Rattle.rules.specs.Tables.{Tables, Counts, typeEntry, rowEntry, from, counted}
+use Rattle.rules.specs.Tables.{Tables, Counts, typeEntry, rowEntry, counted}
 use Rattle.rules.specs.Refusals.{firstRefusal}
 use Rattle.net.specs.declared.Passed.{Passed}
 use Rattle.net.specs.declared.Taking.{Taking}

@@ -15,7 +15,7 @@ ghost use Prim.Native.Nat.{_+_, _*_, _≤_, _<_};
 ghost use lib.IntN.{pos};
 ghost use lib.ListN.{length, take, drop};
 ghost use Rattle.net.specs.Lines.{pinOf, wireOf};
-ghost use Rattle.net.specs.Held.{ownWord, wordsOfType, wordsOfRow, withType, withRow, countedWith, Roomy, Grown};
+ghost use Rattle.net.specs.Held.{ownWord, wordsOfType, wordsOfRow, withRow, countedWith, Roomy, Grown};
 ghost use Rattle.net.specs.Checks.{FewPassed};
 
 fn own_word(t: Femtosecond) -> u32

@@ -16,8 +16,9 @@ ghost use mathlib.Core.Path.{_≡_};
 ghost use Prim.Native.Nat.{_+_, _*_, _≤_, _<_};
 ghost use lib.ListN.{length, getD};
 ghost use Rattle.rules.specs.Tables.{rowBy};
-ghost use Rattle.net.specs.Lines.{repeaterOf, wireOf, lineFor};
-ghost use Rattle.net.specs.Entries.{kindOf, rowAt, typeAt, rowEntryOf};
+ghost use Rattle.laws.specs.Tabled.{kindOf, rowAt};
+ghost use Rattle.net.specs.Lines.{wireOf, lineFor};
+ghost use Rattle.net.specs.Entries.{typeAt, rowEntryOf};
 
 pub fn type_at(types: &[u32], i: usize) -> Repeater
     requires { ⌜ (i < 4) × (3 * i + 3 ≤ length (now types)) ⌝ }

@@ -1,24 +1,20 @@
 -- The fields of a line by place: those from a place on, the first of them, and what a reader of a line learns from it. Behind the
 -- line there is no field, which reads as malformed, as an empty one does. Assumes nothing.
-use mathlib.Core.Path.{_≡_, refl, sym, ap, _∙_}
-use mathlib.Core.Bool.{Bool, true, false, cond}
+use mathlib.Core.Path.{_≡_, sym, ap, _∙_}
+use mathlib.Core.Bool.{cond}
 use mathlib.Core.List.{List, [], _∷_}
-use mathlib.Core.Option.{Option, none, some}
-use Prim.Native.Nat.{ℕ, zero, suc, _+_, _-_, _≤_, _<_}
+use mathlib.Core.Option.{Option, none}
+use Prim.Native.Nat.{ℕ, suc, _+_, _-_, _≤_, _<_}
 use native.Mathlib.Omega.{arith}
-use native.Mathlib.Numerals.{add-one}
 use lib.Dec.{leb}
-use lib.IntN.{ℤ}
-use lib.ListN.{length, take, drop, length-drop, length-take, drop-of-length-le}
+use lib.ListN.{length, take, drop, length-drop}
 use lib.Seq.{drop-drop, take-length}
 use borrow.Author.Tests.{le-leb, lt-leb, leb-true, leb-false}
 use Rattle.rules.specs.Entries.{Entry, malformed}
 use Rattle.rules.specs.Text.{parted, number, signed, after, end, _>>=_}
 use Rattle.text.specs.declared.Field.{Field}
-use Rattle.text.specs.declared.Field.the-variants.{Number, Bad}
 use Rattle.text.specs.declared.SignedField.{SignedField}
-use Rattle.text.specs.declared.SignedField.the-variants.{Number as Time, Bad as BadTime}
-use Rattle.text.specs.Stretches.{tab, lead, stretch, lead-le, either, absurd, parted-last, parted-more, length-stretch, stretch-behind}
+use Rattle.text.specs.Stretches.{tab, lead, stretch, lead-le, either, parted-last, parted-more, length-stretch, stretch-behind}
 use Rattle.text.specs.Numbers.{fieldOf, timeOf, Within, WithinTime, within-number, within-time}
 
 -- the field that starts at a place, and where the next one would

@@ -1,5 +1,4 @@
 -- `net::read_net` keeps its promise: 7, then the length of the text, then line by line. Assumes nothing.
-use mathlib.Core.Path.{_≡_, refl, sym, _∙_}
 use native.Mathlib.Omega.{arith}
 use Rattle.net.specs.Filled.{short-read, long-read, lines-read, rooms-are}
 use borrow.Author.Needs.{needs}

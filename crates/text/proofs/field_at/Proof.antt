@@ -1,6 +1,6 @@
 -- `text::field_at` meets its contract: behind the line nothing is left, and else the part ends where the stretch does. Assumes nothing.
 use mathlib.Core.Path.{_≡_, ap}
-use Prim.Native.Nat.{ℕ, _+_, _-_}
+use Prim.Native.Nat.{ℕ, _-_}
 use native.Mathlib.Omega.{arith}
 use borrow.Author.Needs.{needs}
 use lib.ListN.{take, drop, length-drop}

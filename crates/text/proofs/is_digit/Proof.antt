@@ -1,5 +1,4 @@
 -- `text::is_digit` meets its contract: the two tests are those of the definition. Assumes nothing.
-use mathlib.Core.Path.{refl}
 use borrow.Author.Tests.{lt-leb, le-leb}
 use Rattle.text.proofs.is_digit.Statement.{statement}
 use Rattle.text.proofs.is_digit.Tie as tie

@@ -1,9 +1,8 @@
 -- `text::stretch_end` meets its contract. The loop's invariant: from `i` on the stretch ends where it ends from the start on.
 -- Assumes nothing.
 use Prim.Native.Nat.{_+_, _≤_, _-_}
-use mathlib.Core.Path.{_≡_, sym, _∙_}
+use mathlib.Core.Path.{_≡_}
 use native.Mathlib.Omega.{arith}
-use borrow.Author.Needs.{needs}
 use lib.ListN.{length, drop}
 use Rattle.text.specs.Stretches.{lead, lead-end, lead-here, lead-there}
 use Rattle.text.proofs.stretch_end.Statement.{statement}

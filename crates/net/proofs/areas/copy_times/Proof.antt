@@ -1,10 +1,10 @@
 -- `net::areas::copy_times` meets its contract. The loop's invariant: the first i are those of `from`, the others as they were. Assumes nothing.
 use Prim.Native.Nat.{_≤_, _-_}
-use mathlib.Core.Path.{_≡_, refl, sym, ap, _∙_}
+use mathlib.Core.Path.{_≡_, refl}
 use mathlib.Core.List.{_++_}
 use native.Mathlib.Omega.{arith}
 use lib.IntN.{pos}
-use lib.ListN.{length, take, drop, set, getD}
+use lib.ListN.{take, drop, getD}
 use Rattle.text.specs.Numbers.{bits-back}
 use Rattle.net.specs.Words.{copy-more, length-copied}
 use Rattle.net.proofs.areas.copy_times.Statement.{statement}

@@ -1,7 +1,5 @@
 -- `net::areas::own_word` meets its contract: a delay that is not negative is its own word. Assumes nothing.
-use Prim.Native.Nat.{_<_, _^_}
 use native.Mathlib.Omega.{arith}
-use lib.Signed.{mag}
 use Rattle.net.specs.HeldLaws.{own-negative, own-fits, own-is}
 use Rattle.net.proofs.areas.own_word.Statement.{statement}
 use Rattle.net.proofs.areas.own_word.Tie as tie

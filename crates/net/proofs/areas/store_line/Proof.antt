@@ -1,5 +1,4 @@
 -- `net::areas::store_line` meets its contract: each kind of line is stored behind those that have passed. Assumes nothing.
-use mathlib.Core.Path.{sym}
 use native.Mathlib.Omega.{arith}
 use Rattle.net.specs.HeldLaws.{roomy-type, roomy-driver, roomy-point, roomy-sink, grown-type, grown-driver, grown-point, grown-sink, grown-none}
 use borrow.Author.Needs.{needs}

@@ -1,5 +1,5 @@
 -- `net::below::finish` meets its contract: no driver, then the first childless row. Assumes nothing.
-use mathlib.Core.Path.{_≡_, refl, sym}
+use mathlib.Core.Path.{refl}
 use native.Mathlib.Omega.{arith}
 use Rattle.net.specs.BelowLaws.{finish-none, finish-at, finish-through, found-at}
 use borrow.Author.Needs.{needs}

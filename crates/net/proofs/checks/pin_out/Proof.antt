@@ -1,6 +1,6 @@
 -- `net::checks::pin_out` meets its contract: the first quantity out of range decides. Assumes nothing.
 use Prim.Native.Nat.{_<_, _^_}
-use mathlib.Core.Path.{_≡_, sym, _∙_}
+use mathlib.Core.Path.{_≡_}
 use mathlib.Core.Bool.{true, false}
 use native.Mathlib.Omega.{arith}
 use borrow.Author.Tests.{lt-ltb, le-ltb}

@@ -1,6 +1,5 @@
 -- `net::entries::driver_by` meets its contract: the first field not zero that a driver lacks decides. Assumes nothing.
-use mathlib.Core.Path.{ap, _∙_}
-use Rattle.rules.specs.Tables.{rowBy}
+use mathlib.Core.Path.{ap}
 use Rattle.net.specs.Lines.{lineFor}
 use Rattle.net.specs.EntryLaws.{bits-zero, bits-some, driver-parent, driver-capacitance, driver-site, driver-pin, driver-time, driver-row}
 use Rattle.net.proofs.entries.driver_by.Statement.{statement}

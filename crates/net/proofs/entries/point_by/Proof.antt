@@ -1,6 +1,5 @@
 -- `net::entries::point_by` meets its contract: a plain point has no pin and no required time. Assumes nothing.
-use mathlib.Core.Path.{ap, _∙_}
-use Rattle.rules.specs.Tables.{rowBy}
+use mathlib.Core.Path.{ap}
 use Rattle.net.specs.Lines.{lineFor, wireOf}
 use Rattle.net.specs.EntryLaws.{bits-zero, bits-some, point-pin, point-time, point-row}
 use Rattle.net.proofs.entries.point_by.Statement.{statement}

@@ -1,9 +1,11 @@
 -- `net::entries::row_at` meets its contract. Assumes nothing.
+use Prim.Native.Nat.{_*_}
+use native.Mathlib.Nat.{add-zero}
 use lib.IntN.{pos}
 use lib.ListN.{getD}
 use Rattle.rules.specs.Entries.{rowOf}
+use Rattle.laws.specs.Tabled.{rowAt}
 use Rattle.text.specs.Numbers.{bits-back}
-use Rattle.net.specs.Entries.{rowAt}
 use borrow.Author.Needs.{needs}
 use Rattle.net.proofs.entries.row_at.Statement.{statement}
 use Rattle.net.proofs.entries.row_at.Tie as tie
@@ -73,7 +75,7 @@ shared-slice-read-t13 c = search needs
 
 returns : tie.Need-returns
 unfolding rowAt rowOf
-returns c = let a = c .before .before .before .before .before .before .before .before .before .args in rw (c .before .before .before .before .kind-of .ensures, bits-back (getD (a .due .now) (a .i) (pos 0)) (c .before .before .before .before .before .before .before .time .given))
+returns c = let a = c .before .before .before .before .before .before .before .before .before .args in rw (c .before .before .before .before .kind-of .ensures, bits-back (getD (a .due .now) (a .i) (pos 0)) (c .before .before .before .before .before .before .before .time .given), add-zero (6 * a .i))
 
 pub row-at-spec : {M : Type 1} → statement M
 row-at-spec =

@@ -1,9 +1,6 @@
 -- `net::lines::driver_line` meets its contract: its one field, then no field more. Assumes nothing.
-use mathlib.Core.Path.{_≡_}
-use Prim.Native.Nat.{_≤_}
-use native.Mathlib.Omega.{arith}
-use Rattle.rules.specs.Entries.{Entry, type, driver, point, sink}
-use Rattle.rules.specs.Text.{typeLine, driverLine, pointLine, sinkLine}
+use Rattle.rules.specs.Entries.{driver}
+use Rattle.rules.specs.Text.{driverLine}
 use Rattle.text.specs.Fields.{fieldsFrom}
 use Rattle.net.specs.LineLaws.{read-number, read-bad, read-over, read-end, bad-made, driver₁, driver-is, driver-made}
 use borrow.Author.Needs.{needs}

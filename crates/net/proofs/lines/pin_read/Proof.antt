@@ -1,5 +1,4 @@
 -- `net::lines::pin_read` meets its contract. Assumes nothing.
-use native.Mathlib.Omega.{arith}
 use Rattle.text.specs.Numbers.{bits-back}
 use Rattle.net.specs.Lines.{pinOf}
 use borrow.Author.Needs.{needs}

@@ -1,9 +1,7 @@
 -- `net::lines::point_line` meets its contract: each field in turn, then no field more. Assumes nothing.
-use mathlib.Core.Path.{_≡_}
-use Prim.Native.Nat.{_≤_}
 use native.Mathlib.Omega.{arith}
-use Rattle.rules.specs.Entries.{Entry, type, driver, point, sink}
-use Rattle.rules.specs.Text.{typeLine, driverLine, pointLine, sinkLine}
+use Rattle.rules.specs.Entries.{point}
+use Rattle.rules.specs.Text.{pointLine}
 use Rattle.text.specs.Fields.{fieldsFrom}
 use Rattle.net.specs.LineLaws.{read-number, read-bad, inside, read-over, read-end, bad-made, wire₁, wire₂, wire₃, point₄, point-is, wire-made, point-made}
 use borrow.Author.Needs.{needs}

@@ -1,9 +1,7 @@
 -- `net::lines::sink_line` meets its contract: each field in turn, the last a time, then no field more. Assumes nothing.
-use mathlib.Core.Path.{_≡_}
-use Prim.Native.Nat.{_≤_}
 use native.Mathlib.Omega.{arith}
-use Rattle.rules.specs.Entries.{Entry, type, driver, point, sink}
-use Rattle.rules.specs.Text.{typeLine, driverLine, pointLine, sinkLine}
+use Rattle.rules.specs.Entries.{sink}
+use Rattle.rules.specs.Text.{sinkLine}
 use Rattle.text.specs.Fields.{fieldsFrom}
 use Rattle.net.specs.LineLaws.{read-number, read-time, read-bad, read-bad-time, inside, read-over, read-end, bad-made, wire₁, wire₂, wire₃, sink₄, sink₅, sink₆, sink-is, wire-made, sink-made}
 use borrow.Author.Needs.{needs}

@@ -1,7 +1,7 @@
 -- `net::reads::read_lines` meets its contract. The loop's invariant: the lines before `at` have passed, and the areas hold them.
 -- Assumes nothing.
 use Prim.Native.Nat.{_≤_, _<_, _-_}
-use mathlib.Core.Path.{_≡_, refl, sym, _∙_}
+use mathlib.Core.Path.{_≡_, refl, _∙_}
 use native.Mathlib.Omega.{arith}
 use lib.ListN.{length, drop, length-drop}
 use Rattle.text.specs.Stretches.{lineFeed, lead-le}

@@ -1,6 +1,5 @@
 -- `net::reads::take_line` meets its contract: a refused line is refused for what the list says, and an accepted one is stored and held.
 -- Assumes nothing.
-use mathlib.Core.Path.{_≡_, refl, sym, ap, _∙_}
 use Rattle.rules.specs.Text.{parted, lineOf}
 use Rattle.text.specs.Stretches.{tab}
 use Rattle.net.specs.Taking.{line-room, line-refused, line-held}

@@ -1,13 +1,12 @@
 -- `net::tables::take_rows` meets its contract. The loop's invariant: the rows before i have passed behind the types. Assumes nothing.
-use Prim.Native.Nat.{ℕ, _+_, _≤_, _<_, _-_, min}
-use mathlib.Core.Path.{_≡_, refl, sym, ap, _∙_}
+use Prim.Native.Nat.{ℕ, _≤_, _-_, min}
+use mathlib.Core.Path.{_≡_, ap, _∙_}
 use mathlib.Core.List.{List}
 use native.Mathlib.Omega.{arith}
-use lib.ListN.{length}
 use Rattle.rules.specs.Entries.{Entry}
 use Rattle.rules.specs.Tables.{from, rowEntry}
 use Rattle.net.specs.Lines.{lineFor}
-use Rattle.net.specs.Checks.{FewPassed, placeAt}
+use Rattle.net.specs.Checks.{FewPassed}
 use Rattle.net.specs.Held.{Holds}
 use Rattle.net.specs.TableSteps.{tablesOf, Through}
 use Rattle.net.specs.Taking.{line-room}

@@ -1,14 +1,12 @@
 -- `net::tables::take_types` meets its contract. The loop's invariant: the types before i have passed. Assumes nothing.
-use Prim.Native.Nat.{ℕ, _+_, _≤_, _<_, _-_, min}
-use mathlib.Core.Path.{_≡_, refl, sym, ap, _∙_}
+use Prim.Native.Nat.{ℕ, _≤_, _-_, min}
+use mathlib.Core.Path.{_≡_, refl}
 use mathlib.Core.List.{List, []}
 use native.Mathlib.Omega.{arith}
 use lib.IntN.{ℤ}
-use lib.ListN.{length}
 use Rattle.rules.specs.Tables.{from, typeEntry}
 use Rattle.net.specs.declared.Line.the-variants.{Repeater as TypeLine}
 use Rattle.net.specs.Checks.{FewPassed, placeAt}
-use Rattle.net.specs.Held.{withType}
 use Rattle.net.specs.TableSteps.{tablesOf, Through}
 use Rattle.net.specs.Taking.{line-room}
 use Rattle.net.specs.ReadLaws.{holds-nothing}
