@@ -3,6 +3,7 @@
 
 pub mod plan;
 pub mod print;
+pub mod program;
 pub mod read_tables;
 pub mod read_text;
 

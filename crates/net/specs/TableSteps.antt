@@ -5,20 +5,15 @@ use mathlib.Core.Option.{some}
 use Prim.Native.Nat.{ℕ}
 use lib.IntN.{ℤ}
 use Rattle.rules.specs.Entries.{Entry}
-use Rattle.rules.specs.Tables.{Tables, Counts, typeEntry, rowEntry, counted}
+use Rattle.rules.specs.Tables.{Tables, typeEntry, rowEntry, counted}
 use Rattle.rules.specs.Refusals.{firstRefusal}
+pub use Rattle.laws.specs.Checked.{tablesOf, countsOf}
 use Rattle.net.specs.declared.Passed.{Passed}
 use Rattle.net.specs.declared.Taking.{Taking}
 use Rattle.net.specs.declared.Taking.the-variants.{Taken, Refused}
 use Rattle.net.specs.Checks.{FewPassed}
 use Rattle.net.specs.Held.{Holds}
 use Rattle.net.specs.Steps.{AllBehind}
-
-abbrev pub tablesOf : (types rows : List ℕ) (due : List ℤ) → Tables
-tablesOf types rows due = record { types = types; rows = rows; due = due }
-
-abbrev pub countsOf : (types rows : ℕ) → Counts
-countsOf types rows = record { types = types; rows = rows }
 
 -- the entries of the types, and of the rows
 abbrev pub typeEntries : Tables → (count : ℕ) → List Entry

@@ -1,4 +1,4 @@
-// The entries of a table by value: a type, a row, and the line that an entry would have as text.
+// The entries of a table by value: a type, and the line that a row would have as text.
 use super::Line;
 use super::ROW_WORDS;
 use super::Repeater;
@@ -7,16 +7,13 @@ use super::Wire;
 use super::lines::repeater;
 use rules::Femtofarad;
 use rules::Femtosecond;
-use rules::Kind;
 use rules::Ohm;
 use rules::Pin;
 use rules::Refusal;
-use rules::Row;
 ghost use mathlib.Core.Path.{_≡_};
 ghost use Prim.Native.Nat.{_+_, _*_, _≤_, _<_};
 ghost use lib.ListN.{length, getD};
 ghost use Rattle.rules.specs.Tables.{rowBy};
-ghost use Rattle.laws.specs.Tabled.{kindOf, rowAt};
 ghost use Rattle.net.specs.Lines.{wireOf, lineFor};
 ghost use Rattle.net.specs.Entries.{typeAt, rowEntryOf};
 
@@ -26,39 +23,6 @@ pub fn type_at(types: &[u32], i: usize) -> Repeater
 {
     let at = TYPE_WORDS * i;
     repeater(types[at], types[at + 1], types[at + 2])
-}
-
-fn kind_of(kind: u32, load: u32, due: i64) -> Kind
-    ensures { λ r. ⌜ r ≡ kindOf kind load due ⌝ }
-{
-    if kind == 0 {
-        return Kind::Driver;
-    }
-    if kind == 1 {
-        return Kind::Point;
-    }
-    Kind::Sink(Pin {
-        load: Femtofarad(load),
-        due: Femtosecond(due),
-    })
-}
-
-pub fn row_at(rows: &[u32], due: &[i64], i: usize) -> Row
-    requires { ⌜ (i < 256) × ((6 * i + 6 ≤ length (now rows)) × (i < length (now due))) ⌝ }
-    ensures { λ r. ⌜ r ≡ rowAt (now (rows .entry)) (now (due .entry)) i ⌝ }
-{
-    let at = ROW_WORDS * i;
-    let time = due[i];
-    let kind = kind_of(rows[at], rows[at + 5], time);
-    let parent = rows[at + 1];
-    let site = rows[at + 4] == 1;
-    Row {
-        parent,
-        resistance: Ohm(rows[at + 2]),
-        capacitance: Femtofarad(rows[at + 3]),
-        site,
-        kind,
-    }
 }
 
 fn wire_at(rows: &[u32], i: usize) -> Wire

@@ -1,7 +1,7 @@
 -- From what the planner made to what is promised: the placement chosen is planned, the list is the unbeaten pairs, and the work area is
 -- all zero. Assumes nothing.
 use mathlib.Core.Path.{_≡_, refl, sym, ap, ap₂, subst, _∙_}
-use mathlib.Core.Bool.{Bool, true, false, _||_, true≢false}
+use mathlib.Core.Bool.{Bool, true, false, _||_}
 use mathlib.Core.List.{List, [], _∷_, _++_, map, append-nil}
 use mathlib.Core.Option.{Option, none, some}
 use Prim.Native.Nat.{ℕ, zero, suc, _+_, _*_, _-_, _≤_, _<_}
@@ -40,7 +40,7 @@ use Rattle.laws.specs.Walk.{noRow, seenAt, atRow-seen}
 use Rattle.laws.specs.Tabled.{rowAt, rowsFrom, rows-length, repeatersFrom, repeaters-length}
 use Rattle.laws.specs.Checked.{tablesOf, countsOf, Passed, passed-own}
 use Rattle.rows.specs.Links.{row-is}
-use Rattle.rows.specs.Given.{held, areas, net-accepted, standing, driver-is}
+use Rattle.rows.specs.Given.{neither, held, areas, net-accepted, standing, driver-is}
 use Rattle.lists.specs.Parts.{part, part-cons, part-length}
 use Rattle.lists.specs.Run.{Candidate, blank, run, stack, placeAt}
 use Rattle.lists.specs.Made.{Room, Stand, room-run}
@@ -219,10 +219,6 @@ module _ {types rows : List ℕ} {due : List ℤ} {count n : ℕ} (P : Passed (t
   list-promise row before after len work′ inside a b list clear = rw (le-ltb _ _ a, le-ltb _ _ b, room-columns room, passed-own (tablesOf types rows due) (countsOf count n) P, lt-leb _ _ inside) (len, refl, list, clear)
 
 -- ---- the rooms, from the tests in the code
-neither : (a b : Bool) → (a || b) ≡ false → (a ≡ false) × (b ≡ false)
-neither true b e = absurd (true≢false e)
-neither false b e = (refl, e)
-
 pub work-room : {ls : List ℕ} {ts : List ℤ} {ws : List ℕ} → shortBy (length ls) (length ts) (length ws) ≡ false → Room ls ts ws
 work-room {ls} {ts} {ws} e =
     let (a, b) = neither (ltb (length ls) workRoom) _ e in

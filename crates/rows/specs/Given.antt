@@ -22,7 +22,7 @@ use Rattle.laws.specs.Checked.{tablesOf, countsOf, Passed}
 use Rattle.rows.specs.Links.{Standing, Earlier, row-is}
 
 -- neither of two
-neither : (a b : Bool) → (a || b) ≡ false → (a ≡ false) × (b ≡ false)
+pub neither : (a b : Bool) → (a || b) ≡ false → (a ≡ false) × (b ≡ false)
 neither true b e = absurd (true≢false e)
 neither false b e = (refl, e)
 
@@ -39,7 +39,7 @@ long-tables types rows due e =
     let (b, c) = neither (ltb (length rows) (rowWords * rowsRoom)) _ b in
     record { types-room = ltb-false _ _ a; rows-room = ltb-false _ _ b; due-room = ltb-false _ _ c }
 
-driver-first : (net : List Row) → 1 ≤ length net → driverOhms net ≡ getD net 0 noRow .resistance .0
+pub driver-first : (net : List Row) → 1 ≤ length net → driverOhms net ≡ getD net 0 noRow .resistance .0
 driver-first [] h = absurd (omega arith)
 driver-first (x ∷ net) h = refl
 

@@ -1,13 +1,13 @@
 -- Tables that are not refused, and a placement: what the code is given, and that what it answers is what is promised. Assumes nothing.
 use mathlib.Core.Path.{_≡_, refl, sym, ap, _∙_}
-use mathlib.Core.Bool.{Bool, true, false, _||_, true≢false}
+use mathlib.Core.Bool.{Bool, true, false, _||_}
 use mathlib.Core.List.{List, [], _∷_}
 use mathlib.Core.Option.{Option, none, some, Option·some-ne-none}
 use Prim.Native.Nat.{ℕ, _*_, _≤_}
 use native.Mathlib.Omega.{arith}
 use lib.Dec.{ltb}
 use lib.IntN.{ℤ}
-use lib.ListN.{length, getD}
+use lib.ListN.{length}
 use borrow.Author.Tests.{ltb-false}
 use Rattle.rules.specs.declared.Checking.the-variants.{Accepted as Passes, Refused as Stops}
 use Rattle.rules.specs.declared.Refusal.{Refusal}
@@ -16,9 +16,9 @@ use Rattle.rules.specs.declared.Row.{Row}
 use Rattle.rules.specs.declared.Slacking.{Slacking}
 use Rattle.rules.specs.declared.Slacking.the-variants.{Refused}
 use Rattle.rules.specs.Lists.{orElse, when}
-use Rattle.rules.specs.Quantities.{_⊖_, typesRoom, rowsRoom}
+use Rattle.rules.specs.Quantities.{_⊖_}
 use Rattle.rules.specs.Entries.{Entry, typesOf, rowsOf}
-use Rattle.rules.specs.Tables.{Tables, Counts, typeWords, rowWords, shortTables, tableEntries}
+use Rattle.rules.specs.Tables.{Tables, Counts, shortTables, tableEntries}
 use Rattle.rules.specs.Refusals.{refusalOf}
 use Rattle.rules.specs.Placements.{marks, placementRefusal}
 use Rattle.rules.specs.Net.{Tree, atRow, driverOhms}
@@ -26,13 +26,14 @@ use Rattle.rules.specs.Slack.{load}
 use Rattle.rules.specs.Answers.{slackFigures, Timing}
 use Rattle.rules.specs.Promises.{tablesRefusal, shortPlacement, slackRefusal, SlackPromise}
 use Rattle.laws.specs.Trees.{time, slack-is}
-use Rattle.laws.specs.Accepted.{Accepted, accepted}
+use Rattle.laws.specs.Accepted.{accepted}
 use Rattle.laws.specs.Rows.{rows-two}
 use Rattle.laws.specs.Whole.{tree-at}
 use Rattle.laws.specs.Legality.{marks-legality}
-use Rattle.laws.specs.Tabled.{rowAt, rowsFrom, rows-length, repeatersFrom, repeaters-length, Tabled, tabled}
-use Rattle.laws.specs.Walk.{noRow, seenAt, atRow-seen}
-use Rattle.rows.specs.Links.{Standing, row-is}
+use Rattle.laws.specs.Tabled.{rowAt, rowsFrom, rows-length, repeatersFrom, repeaters-length}
+use Rattle.laws.specs.Walk.{seenAt, atRow-seen}
+use Rattle.laws.specs.Checked.{Passed}
+use Rattle.rows.specs.Given.{neither, held, areas, net-accepted, standing, driver-is}
 use Rattle.net.specs.Checks.{checking}
 use Rattle.net.specs.TableSteps.{tablesOf, countsOf}
 use Rattle.slack.specs.Hung.{seenAs, hungOf, slackHung}
@@ -46,20 +47,9 @@ pub record Given (types rows : List ℕ) (due : List ℤ) (count n : ℕ) (words
   pub words-long : shortPlacement words ≡ false
   pub accepted : refusalOf (tableEntries (tablesOf types rows due) (countsOf count n)) ≡ none
 
--- neither of two
-neither : (a b : Bool) → (a || b) ≡ false → (a ≡ false) × (b ≡ false)
-neither true b e = absurd (true≢false e)
-neither false b e = (refl, e)
-
 passed : (b : Bool) (rest : Option Refusal) → orElse (when b Short) rest ≡ none → (b ≡ false) × (rest ≡ none)
 passed true rest e = absurd (Option·some-ne-none Short e)
 passed false rest e = (refl, e)
-
--- each area has its room
-record Long (types rows : List ℕ) (due : List ℤ) : Type 0 where
-  types-room : typeWords * typesRoom ≤ length types
-  rows-room : rowWords * rowsRoom ≤ length rows
-  due-room : rowsRoom ≤ length due
 
 -- what a check that was made says of what is refused
 stops-is : {r : Refusal} (o : Option Refusal) → Stops r ≡ checking o → o ≡ some r
@@ -70,11 +60,6 @@ passes-is : (o : Option Refusal) → Passes ≡ checking o → o ≡ none
 passes-is none e = refl
 passes-is (some q) e = absurd (let z : _≡_ {A = ℕ} 0 1 = cc in omega arith)
 
--- the driver is the first row
-driver-first : (net : List Row) → 1 ≤ length net → driverOhms net ≡ getD net 0 noRow .resistance .0
-driver-first [] h = absurd (omega arith)
-driver-first (x ∷ net) h = refl
-
 module _ {types rows : List ℕ} {due : List ℤ} {count n : ℕ} {words : List ℕ} (G : Given types rows due count n words) where
   abbrev es : List Entry
   es = tableEntries (tablesOf types rows due) (countsOf count n)
@@ -82,33 +67,15 @@ module _ {types rows : List ℕ} {due : List ℤ} {count n : ℕ} {words : List 
   abbrev net : List Row
   net = rowsFrom rows due 0 n
 
-  held : Tabled (tablesOf types rows due) (countsOf count n)
-  held = tabled (tablesOf types rows due) (countsOf count n) (G .accepted)
-
-  ok : Accepted (repeatersFrom types 0 count) net
-  ok = rw (held .types-are, held .rows-are) at (accepted es (G .accepted))
-
-  long : Long types rows due
-  unfolding shortTables
-  long =
-      let (a, b) = neither (ltb (length types) (typeWords * typesRoom)) _ (G .tables-long) in
-      let (b, c) = neither (ltb (length rows) (rowWords * rowsRoom)) _ b in
-      record { types-room = ltb-false _ _ a; rows-room = ltb-false _ _ b; due-room = ltb-false _ _ c }
-
-  standing : Standing rows due n
-  standing = record {
-    some = omega (arith, rows-two ok, rows-length rows due 0 n);
-    few = held .rows-few;
-    rows-long = omega (arith, held .rows-few, long .rows-room);
-    due-long = omega (arith, held .rows-few, long .due-room);
-  }
+  pass : Passed (tablesOf types rows due) (countsOf count n)
+  pass = record { long = G .tables-long; accepted = G .accepted }
 
   -- what the check of the marks needs, and the net it is of
   pub marking : Marking rows due count n words
-  marking = record { standing = standing; types-few = held .types-few; sites-few = ok .sites-few; words-long = ltb-false _ _ (G .words-long) }
+  marking = record { standing = standing pass; types-few = held pass .types-few; sites-few = net-accepted pass .sites-few; words-long = ltb-false _ _ (G .words-long) }
 
   pub net-of : NetOf rows due count n es
-  net-of = record { types-are = rw (held .types-are) (repeaters-length types 0 count); rows-are = held .rows-are }
+  net-of = record { types-are = rw (held pass .types-are) (repeaters-length types 0 count); rows-are = held pass .rows-are }
 
   -- the tree at the driver
   tree : (t : Tree) × (atRow (rowsOf es) 0 ≡ some t)
@@ -116,11 +83,11 @@ module _ {types rows : List ℕ} {due : List ℤ} {count n : ℕ} {words : List 
 
   -- a placement that is not refused marks with types that there are
   known : placementRefusal es (marks words) ≡ none → (j : ℕ) → marks words j ≤ count
-  known h j = rw (held .types-are, repeaters-length) at (marks-legality es words (accepted es (G .accepted)) (tree .0) (tree .1) .0 h .known j)
+  known h j = rw (held pass .types-are, repeaters-length) at (marks-legality es words (accepted es (G .accepted)) (tree .0) (tree .1) .0 h .known j)
 
   -- what the walk over the tree stands on
   pub sound-of : placementRefusal es (marks words) ≡ none → Sound rows due types words n
-  sound-of h = sound rows due types words count n standing (long .types-room) (ltb-false _ _ (G .words-long)) (held .types-few) ok (known h)
+  sound-of h = sound rows due types words count n (standing pass) (areas pass .types-room) (ltb-false _ _ (G .words-long)) (held pass .types-few) (net-accepted pass) (known h)
 
   -- ---- what is answered
   -- only refusal 6 is left
@@ -139,17 +106,15 @@ module _ {types rows : List ℕ} {due : List ℤ} {count n : ℕ} {words : List 
 
   module _ (h : placementRefusal es (marks words) ≡ none) where
     ohms : rowAt rows due 0 .resistance .0 ≡ driverOhms (rowsOf es)
-    ohms =
-        let l = rows-length rows due 0 n in
-        ap (λ x. x .resistance .0) (sym (row-is rows due n 0 (rowAt rows due 0) (standing .some) refl)) ∙ sym (driver-first net (omega (arith, standing .some))) ∙ rw (held .rows-are)
+    ohms = driver-is pass ∙ rw (held pass .rows-are)
 
     hung : hungAt rows due types words n 0 ≡ seenAs (load (typesOf es) (marks words) (tree .0)) (time (typesOf es) (marks words) (tree .0))
     unfolding hungAt hungOf
     hung =
         let l = rows-length rows due 0 n in
-        hung-same types count (held .types-few) (marks words) (known h) (seenAt net 0)
-        ∙ ap (hungOf (repeatersFrom types 0 count) (marks words)) (sym (atRow-seen net 0 (omega (arith, standing .some))) ∙ rw (held .rows-are) at (tree .1))
-        ∙ rw (held .types-are)
+        hung-same types count (held pass .types-few) (marks words) (known h) (seenAt net 0)
+        ∙ ap (hungOf (repeatersFrom types 0 count) (marks words)) (sym (atRow-seen net 0 (omega (arith, standing pass .some))) ∙ rw (held pass .rows-are) at (tree .1))
+        ∙ rw (held pass .types-are)
 
     timing : Timing
     timing = record { slack = time (typesOf es) (marks words) (tree .0) ⊖ (driverOhms (rowsOf es) * load (typesOf es) (marks words) (tree .0)); load = load (typesOf es) (marks words) (tree .0) }

@@ -90,7 +90,7 @@ fn plan_words(net: &Net) -> String {
 }
 
 /// Whether one placement alone has this slack and load; not said of nets too large to go through.
-fn only_placement(net: &Net, best: Pair) -> bool {
+pub fn only_placement(net: &Net, best: Pair) -> bool {
     let marks = net.types().len() + 1;
     let count = net.site_rows().iter().try_fold(1usize, |count, _| count.checked_mul(marks));
     count.is_some_and(|count| count <= SEARCHED)

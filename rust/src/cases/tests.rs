@@ -1,5 +1,5 @@
 use super::print::{self, answer_plan, answer_tables, answer_text};
-use super::Ask;
+use super::{program, Ask};
 use crate::recipe;
 use std::collections::HashSet;
 
@@ -66,6 +66,15 @@ fn names_differ_and_cases_suffice() {
 fn sum_of_net_a() {
     let net_a = print::text_cases().find(|case| case.name == "net-a").unwrap();
     assert_eq!(answer_text(net_a), "accepted 1 3 sum 24753");
+}
+
+/// What the proved program is run on, and what it must write.
+#[test]
+fn program_files_are_current() {
+    let script = program::script();
+    let requests = include_bytes!("../../../crates/vectors/stdin");
+    let answers = include_str!("../../../crates/vectors/stdout");
+    assert!(script.requests == requests && script.answers == answers, "run `script`");
 }
 
 #[test]

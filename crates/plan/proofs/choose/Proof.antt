@@ -5,23 +5,15 @@ use native.Mathlib.Omega.{arith}
 use borrow.Author.Needs.{needs}
 use Rattle.plan.proofs.choose.Statement.{statement}
 use Rattle.plan.proofs.choose.Tie as tie
-use Rattle.plan.proofs.choose.Reads as reads
-use Rattle.plan.proofs.choose.Lts as lts
-use Rattle.lists.proofs.choices.best_at.Reads as best-at-reads
-use Rattle.plan.proofs.put_placement.Reads as put-placement-reads
-use Rattle.rows.proofs.row_at.Reads as row-at-reads
 
--- src/lib.rt:81:9
 row-at-requires : tie.Need-row-at-requires
 row-at-requires c κs = omega (arith, c .before .before .before .before .pre .row-long, c .before .before .before .before .pre .due-long)
 
--- src/lib.rt:83:9
 best-at-requires : tie.Need-best-at-requires
 best-at-requires c κs =
     let p = c .before .before .before .before .before .before .pre in
     (stand-columns (p .room) (p .stand), rw (c .before .row-at .ensures) (p .ohms))
 
--- src/lib.rt:86:5
 put-placement-requires : tie.Need-put-placement-requires
 put-placement-requires c κs =
     let p = c .before .before .before .before .before .before .before .before .before .pre in
@@ -29,11 +21,9 @@ put-placement-requires c κs =
     let h = rw (c .before .before .before .before .row-at .ensures) at (c .before .before .best-at .ensures) in
     (omega (arith, chosen-inside (a .rows .now) (a .due .now) (a .loads .now) (a .times .now) (a .words .now) (a .len) (a .placement .now) p (c .before .before .best-at .result .at) (c .before .before .best-at .result .value .0) h, p .room .words), p .four)
 
--- src/lib.rt:89:26
 mul-t16 : tie.Need-mul-t16
 mul-t16 c = search needs
 
--- src/lib.rt:89:26
 shared-slice-read-t18 : tie.Need-shared-slice-read-t18
 shared-slice-read-t18 c =
     let p = c .before .before .before .before .before .before .before .before .before .before .before .before .before .pre in
@@ -41,11 +31,9 @@ shared-slice-read-t18 c =
     let h = rw (c .before .before .before .before .before .before .before .before .row-at .ensures) at (c .before .before .before .before .before .before .best-at .ensures) in
     omega (arith, chosen-inside (a .rows .now) (a .due .now) (a .loads .now) (a .times .now) (a .words .now) (a .len) (a .placement .now) p (c .before .before .before .before .before .before .best-at .result .at) (c .before .before .before .before .before .before .best-at .result .value .0) h, p .room .loads)
 
--- src/lib.rt:69:1
 same-length : tie.Need-same-length
 same-length c = search needs
 
--- src/lib.rt:69:1
 returns : tie.Need-returns
 returns c =
     let p = c .before .before .before .before .before .before .before .before .before .before .before .before .before .pre in

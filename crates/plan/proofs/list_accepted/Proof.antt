@@ -6,71 +6,52 @@ use mathlib.Core.Path.{refl, sym}
 use borrow.Author.Needs.{needs}
 use Rattle.plan.proofs.list_accepted.Statement.{statement}
 use Rattle.plan.proofs.list_accepted.Tie as tie
-use Rattle.plan.proofs.list_accepted.Reads as reads
-use Rattle.plan.proofs.list_accepted.Lts as lts
-use Rattle.plan.proofs.list_in.Reads as list-in-reads
-use Rattle.plan.proofs.listed.Reads as listed-reads
 
--- src/lib.rt:239:16
 mul-wide : tie.Need-mul-wide
 mul-wide c = search needs
 
--- src/lib.rt:240:80
 slice-relend-prefix-list-in : tie.Need-slice-relend-prefix-list-in
 slice-relend-prefix-list-in c = search needs
 
--- src/lib.rt:240:80
 slice-aggregate-list-in : tie.Need-slice-aggregate-list-in
 slice-aggregate-list-in c = sym (length-take-le 768 (c .before .before .before .before .before .before .before .before .args .loads .now) (c .before .before .before .before .before .before .before .before .pre .1 .1 .loads))
 
--- src/lib.rt:240:100
 slice-relend-prefix-list-in-2 : tie.Need-slice-relend-prefix-list-in-2
 slice-relend-prefix-list-in-2 c = search needs
 
--- src/lib.rt:240:100
 slice-aggregate-list-in-2 : tie.Need-slice-aggregate-list-in-2
 slice-aggregate-list-in-2 c = sym (length-take-le 768 (c .before .before .before .before .before .before .before .before .before .args .times .now) (c .before .before .before .before .before .before .before .before .before .pre .1 .1 .times))
 
--- src/lib.rt:240:120
 slice-relend-prefix-list-in-3 : tie.Need-slice-relend-prefix-list-in-3
 slice-relend-prefix-list-in-3 c = search needs
 
--- src/lib.rt:240:120
 slice-aggregate-list-in-3 : tie.Need-slice-aggregate-list-in-3
 slice-aggregate-list-in-3 c = sym (length-take-le 3072 (c .before .before .before .before .before .before .before .before .before .before .args .words .now) (c .before .before .before .before .before .before .before .before .before .before .pre .1 .1 .words))
 
--- src/lib.rt:240:9
 list-in-requires : tie.Need-list-in-requires
 list-in-requires c κs =
     let a = c .before .before .before .before .before .before .before .before .before .before .args in
     let p = c .before .before .before .before .before .before .before .before .before .before .pre in
     (p .0, (p .1 .0, parts-exact (p .1 .1)))
 
--- src/lib.rt:241:5
 listed-requires : tie.Need-listed-requires
 listed-requires c κs = search needs
 
--- src/lib.rt:220:1
 same-length : tie.Need-same-length
 same-length c = search needs
 
--- src/lib.rt:220:1
 same-length-2 : tie.Need-same-length-2
 same-length-2 c = search needs
 
--- src/lib.rt:220:1
 same-length-3 : tie.Need-same-length-3
 same-length-3 c = search needs
 
--- src/lib.rt:220:1
 same-length-4 : tie.Need-same-length-4
 same-length-4 c = search needs
 
--- src/lib.rt:220:1
 same-length-5 : tie.Need-same-length-5
 same-length-5 c = search needs
 
--- src/lib.rt:220:1
 returns : tie.Need-returns
 returns c =
     let a = c .before .before .before .before .before .before .before .before .before .before .before .before .before .before .before .before .before .before .before .before .args in

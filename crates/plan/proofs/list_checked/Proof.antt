@@ -6,84 +6,64 @@ use mathlib.Core.Path.{sym, _∙_}
 use borrow.Author.Needs.{needs}
 use Rattle.plan.proofs.list_checked.Statement.{statement}
 use Rattle.plan.proofs.list_checked.Tie as tie
-use Rattle.plan.proofs.list_checked.Reads as reads
-use Rattle.plan.proofs.list_checked.Lts as lts
-use Rattle.plan.proofs.list_accepted.Reads as list-accepted-reads
-use Rattle.plan.proofs.short_list.Reads as short-list-reads
-use Rattle.plan.proofs.short_work.Reads as short-work-reads
 
--- src/lib.rt:272:9
 short-list-requires : tie.Need-short-list-requires
 short-list-requires c κs = search needs
 
--- src/lib.rt:274:9
 returns : tie.Need-returns
 returns c =
     let a = c .before .before .before .before .before .before .before .args in
     let p = c .before .before .before .before .before .before .before .pre in
     list-short-own (tablesOf (a .types .now) (a .rows .now) (a .due .now)) (countsOf (a .count) (a .n)) (a .loads .now) (a .times .now) (a .words .now) (a .row) (a .list-loads .now) (a .list-times .now) (sym (c .before .short-list .ensures) ∙ c .if1 .taken)
 
--- src/lib.rt:276:9
 short-work-requires : tie.Need-short-work-requires
 short-work-requires c κs = search needs
 
--- src/lib.rt:278:9
 returns-2 : tie.Need-returns-2
 returns-2 c =
     let a = c .before .before .before .before .before .before .before .before .before .args in
     let p = c .before .before .before .before .before .before .before .before .before .pre in
     list-short-work (tablesOf (a .types .now) (a .rows .now) (a .due .now)) (countsOf (a .count) (a .n)) (a .loads .now) (a .times .now) (a .words .now) (a .row) (a .list-loads .now) (a .list-times .now) (sym (c .before .short-work .ensures) ∙ c .if2 .taken)
 
--- src/lib.rt:281:27
 enum-known-checked : tie.Need-enum-known-checked
 enum-known-checked c = search needs
 
--- src/lib.rt:283:16
 enum-told : tie.Need-enum-told
 enum-told c = search needs
 
--- src/lib.rt:284:17
 returns-3 : tie.Need-returns-3
 returns-3 c =
     let a = c .before .before .before .before .before .before .before .before .before .before .before .before .args in
     let p = c .before .before .before .before .before .before .before .before .before .before .before .before .pre in
     list-no-row (tablesOf (a .types .now) (a .rows .now) (a .due .now)) (countsOf (a .count) (a .n)) (a .loads .now) (a .times .now) (a .words .now) (a .row) (a .list-loads .now) (a .list-times .now) (sym (c .before .before .before .before .before .before .short-list .ensures) ∙ c .before .before .before .before .before .if1 .left) (sym (c .before .before .before .before .short-work .ensures) ∙ c .before .before .before .if2 .left) (checked-passed (tablesOf (a .types .now) (a .rows .now) (a .due .now)) (countsOf (a .count) (a .n)) (a .checked) p (c .before .enum-told .given .1)) (c .if3 .taken)
 
--- src/lib.rt:286:13
 list-accepted-requires : tie.Need-list-accepted-requires
 list-accepted-requires c κs =
     let a = c .before .before .before .before .before .before .before .before .before .before .before .before .before .before .before .before .before .args in
     let p = c .before .before .before .before .before .before .before .before .before .before .before .before .before .before .before .before .before .pre in
     (checked-passed (tablesOf (a .types .now) (a .rows .now) (a .due .now)) (countsOf (a .count) (a .n)) (a .checked) p (c .before .before .before .before .before .before .enum-told .given .1), ((c .before .before .before .before .before .if3 .left, list-rooms (a .list-loads .now) (a .list-times .now) (sym (c .before .before .before .before .before .before .before .before .before .before .before .short-list .ensures) ∙ c .before .before .before .before .before .before .before .before .before .before .if1 .left)), work-room (sym (c .before .before .before .before .before .before .before .before .before .short-work .ensures) ∙ c .before .before .before .before .before .before .before .before .if2 .left)))
 
--- src/lib.rt:255:1
 returns-4 : tie.Need-returns-4
 returns-4 c =
     let a = c .before .before .before .before .before .before .before .before .before .before .before .before .args in
     let p = c .before .before .before .before .before .before .before .before .before .before .before .before .pre in
     list-stopped (tablesOf (a .types .now) (a .rows .now) (a .due .now)) (countsOf (a .count) (a .n)) (a .loads .now) (a .times .now) (a .words .now) (a .row) (a .list-loads .now) (a .list-times .now) (sym (c .before .before .before .before .before .before .short-list .ensures) ∙ c .before .before .before .before .before .if1 .left) (sym (c .before .before .before .before .short-work .ensures) ∙ c .before .before .before .if2 .left) _ (checked-stopped (tablesOf (a .types .now) (a .rows .now) (a .due .now)) (countsOf (a .count) (a .n)) (a .checked) p _ (c .before .checked .given .1))
 
--- src/lib.rt:255:1
 same-length : tie.Need-same-length
 same-length c = search needs
 
--- src/lib.rt:255:1
 same-length-2 : tie.Need-same-length-2
 same-length-2 c = search needs
 
--- src/lib.rt:255:1
 same-length-3 : tie.Need-same-length-3
 same-length-3 c = search needs
 
--- src/lib.rt:255:1
 same-length-4 : tie.Need-same-length-4
 same-length-4 c = search needs
 
--- src/lib.rt:255:1
 same-length-5 : tie.Need-same-length-5
 same-length-5 c = search needs
 
--- src/lib.rt:255:1
 returns-5 : tie.Need-returns-5
 returns-5 c = search needs
 

@@ -6,24 +6,15 @@ use Rattle.lists.specs.Run.{run}
 use Rattle.rules.specs.Quantities.{workRoom}
 use native.Mathlib.Omega.{arith}
 use mathlib.Core.Path.{refl, _∙_}
-use borrow.Author.Needs.{needs}
 use Rattle.plan.proofs.list_in.Statement.{statement}
 use Rattle.plan.proofs.list_in.Tie as tie
-use Rattle.plan.proofs.list_in.Reads as reads
-use Rattle.plan.proofs.list_in.Lts as lts
-use Rattle.lists.proofs.areas.clear.Reads as clear-reads
-use Rattle.net.proofs.areas.copy_times.Reads as copy-times-reads
-use Rattle.net.proofs.areas.copy_words.Reads as copy-words-reads
-use Rattle.plan.proofs.make.Reads as make-reads
 
--- src/lib.rt:212:9
 make-requires : tie.Need-make-requires
 make-requires c κs =
     let a = c .before .before .before .before .before .before .before .before .args in
     let p = c .before .before .before .before .before .before .before .before .pre in
     (p .0, (p .1 .0 .0, exact-room (p .1 .1)))
 
--- src/lib.rt:213:5
 copy-words-requires : tie.Need-copy-words-requires
 copy-words-requires c κs =
     let a = c .before .before .before .before .before .before .before .before .before .before .before .before .before .before .before .before .args in
@@ -36,7 +27,6 @@ copy-words-requires c κs =
     let f = made-few (p .0) (a .row) (p .1 .0 .0) (run (a .loads .now) (a .times .now) (a .words .now)) (run (m .last .1 .1 .1 .1 .1 .0) (m .last .1 .1 .1 .1 .1 .1 .0) (m .last .1 .1 .1 .1 .1 .1 .1 .0)) long (m .result) (m .ensures) in
     (omega (arith, f, e₁ .loads), omega (arith, f, p .1 .0 .1 .0))
 
--- src/lib.rt:214:5
 copy-times-requires : tie.Need-copy-times-requires
 copy-times-requires c κs =
     let a = c .before .before .before .before .before .before .before .before .before .before .before .before .before .before .before .before .before .before .before .before .before .args in
@@ -49,7 +39,6 @@ copy-times-requires c κs =
     let f = made-few (p .0) (a .row) (p .1 .0 .0) (run (a .loads .now) (a .times .now) (a .words .now)) (run (m .last .1 .1 .1 .1 .1 .0) (m .last .1 .1 .1 .1 .1 .1 .0) (m .last .1 .1 .1 .1 .1 .1 .1 .0)) long (m .result) (m .ensures) in
     (omega (arith, f, e₁ .times), omega (arith, f, p .1 .0 .1 .1))
 
--- src/lib.rt:215:5
 clear-requires : tie.Need-clear-requires
 clear-requires c κs =
     let a = c .before .before .before .before .before .before .before .before .before .before .before .before .before .before .before .before .before .before .before .before .before .before .before .before .before .before .args in
@@ -61,27 +50,21 @@ clear-requires c κs =
     let long = room-run workRoom r₁ (omega arith) in
     omega (arith, e₁ .loads, e₁ .times, e₁ .words)
 
--- src/lib.rt:192:1
 same-length : tie.Need-same-length
 same-length c = c .before .before .before .before .before .before .before .before .before .before .before .before .before .before .list-loads .given
 
--- src/lib.rt:192:1
 same-length-2 : tie.Need-same-length-2
 same-length-2 c = c .before .before .before .before .before .before .before .before .before .list-times .given
 
--- src/lib.rt:192:1
 same-length-3 : tie.Need-same-length-3
 same-length-3 c = c .before .before .before .before .loads2 .given ∙ c .before .before .before .before .before .before .before .before .before .before .before .before .before .before .before .before .before .before .before .before .before .before .loads .given
 
--- src/lib.rt:192:1
 same-length-4 : tie.Need-same-length-4
 same-length-4 c = c .before .before .times2 .given ∙ c .before .before .before .before .before .before .before .before .before .before .before .before .before .before .before .before .before .before .before .before .times .given
 
--- src/lib.rt:192:1
 same-length-5 : tie.Need-same-length-5
 same-length-5 c = c .before .words2 .given ∙ c .before .before .before .before .before .before .before .before .before .before .before .before .before .before .before .before .before .before .before .words .given
 
--- src/lib.rt:192:1
 returns : tie.Need-returns
 returns c =
     let a = c .before .before .before .before .before .before .before .before .before .before .before .before .before .before .before .before .before .before .before .before .before .before .before .before .before .before .before .before .before .before .before .before .args in

@@ -6,45 +6,33 @@ use lib.ListN.{length-replicate}
 use borrow.Author.Needs.{needs}
 use Rattle.plan.proofs.make.Statement.{statement}
 use Rattle.plan.proofs.make.Tie as tie
-use Rattle.plan.proofs.make.Reads as reads
-use Rattle.plan.proofs.make.Lts as lts
-use Rattle.plan.proofs.walk.seen.Reads as seen-reads
-use Rattle.rows.proofs.link.Reads as link-reads
 
--- src/lib.rt:52:30
 slice-aggregate-link : tie.Need-slice-aggregate-link
 slice-aggregate-link c = search needs
 
--- src/lib.rt:52:5
 link-requires : tie.Need-link-requires
 link-requires c κs =
     let p = c .before .before .before .before .before .pre .0 in
     (standing p, (earlier p, length-replicate {A = ℕ} 768 0))
 
--- src/lib.rt:53:41
 slice-aggregate-seen : tie.Need-slice-aggregate-seen
 slice-aggregate-seen c = search needs
 
--- src/lib.rt:53:5
 seen-requires : tie.Need-seen-requires
 seen-requires c κs =
     let a = c .before .before .before .before .before .before .before .before .before .before .before .args in
     let p = c .before .before .before .before .before .before .before .before .before .before .before .pre in
     (record { standing = standing (p .0); types-long = areas (p .0) .types-room; accepted = net-accepted (p .0); linked = c .before .before .before .before .before .link .ensures }, (p .1 .0, (p .1 .1, start-room (a .rows .now) (a .due .now) (a .types .now) (a .count) (a .n) (net-accepted (p .0)) (a .row) (p .1 .0))))
 
--- src/lib.rt:35:1
 same-length : tie.Need-same-length
 same-length c = search needs
 
--- src/lib.rt:35:1
 same-length-2 : tie.Need-same-length-2
 same-length-2 c = search needs
 
--- src/lib.rt:35:1
 same-length-3 : tie.Need-same-length-3
 same-length-3 c = search needs
 
--- src/lib.rt:35:1
 returns : tie.Need-returns
 returns c = search needs
 

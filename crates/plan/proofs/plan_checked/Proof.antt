@@ -7,68 +7,52 @@ use mathlib.Core.Path.{sym, _∙_}
 use borrow.Author.Needs.{needs}
 use Rattle.plan.proofs.plan_checked.Statement.{statement}
 use Rattle.plan.proofs.plan_checked.Tie as tie
-use Rattle.plan.proofs.plan_checked.Reads as reads
-use Rattle.plan.proofs.plan_checked.Lts as lts
-use Rattle.plan.proofs.plan_accepted.Reads as plan-accepted-reads
-use Rattle.plan.proofs.short_work.Reads as short-work-reads
 
--- src/lib.rt:171:9
 returns : tie.Need-returns
 returns c =
     let a = c .before .before .before .before .before .before .args in
     let p = c .before .before .before .before .before .before .pre in
     plan-short-own (tablesOf (a .types .now) (a .rows .now) (a .due .now)) (countsOf (a .count) (a .n)) (a .loads .now) (a .times .now) (a .words .now) (a .placement .now) (lt-ltb _ _ (c .if1 .taken))
 
--- src/lib.rt:173:9
 short-work-requires : tie.Need-short-work-requires
 short-work-requires c κs = search needs
 
--- src/lib.rt:175:9
 returns-2 : tie.Need-returns-2
 returns-2 c =
     let a = c .before .before .before .before .before .before .before .before .args in
     let p = c .before .before .before .before .before .before .before .before .pre in
     plan-short-work (tablesOf (a .types .now) (a .rows .now) (a .due .now)) (countsOf (a .count) (a .n)) (a .loads .now) (a .times .now) (a .words .now) (a .placement .now) (sym (c .before .short-work .ensures) ∙ c .if2 .taken)
 
--- src/lib.rt:178:27
 enum-known-checked : tie.Need-enum-known-checked
 enum-known-checked c = search needs
 
--- src/lib.rt:179:73
 enum-told : tie.Need-enum-told
 enum-told c = search needs
 
--- src/lib.rt:179:31
 plan-accepted-requires : tie.Need-plan-accepted-requires
 plan-accepted-requires c κs =
     let a = c .before .before .before .before .before .before .before .before .before .before .before .before .before .before .args in
     let p = c .before .before .before .before .before .before .before .before .before .before .before .before .before .before .pre in
     (checked-passed (tablesOf (a .types .now) (a .rows .now) (a .due .now)) (countsOf (a .count) (a .n)) (a .checked) p (c .before .before .before .before .enum-told .given .1), (c .before .before .before .before .before .before .before .before .if1 .left, work-room (sym (c .before .before .before .before .before .before .before .short-work .ensures) ∙ c .before .before .before .before .before .before .if2 .left)))
 
--- src/lib.rt:155:1
 returns-3 : tie.Need-returns-3
 returns-3 c =
     let a = c .before .before .before .before .before .before .before .before .before .before .before .args in
     let p = c .before .before .before .before .before .before .before .before .before .before .before .pre in
     plan-stopped (tablesOf (a .types .now) (a .rows .now) (a .due .now)) (countsOf (a .count) (a .n)) (a .loads .now) (a .times .now) (a .words .now) (a .placement .now) _ (le-ltb _ _ (c .before .before .before .before .before .if1 .left)) (sym (c .before .before .before .before .short-work .ensures) ∙ c .before .before .before .if2 .left) (checked-stopped (tablesOf (a .types .now) (a .rows .now) (a .due .now)) (countsOf (a .count) (a .n)) (a .checked) p _ (c .before .checked .given .1))
 
--- src/lib.rt:155:1
 same-length : tie.Need-same-length
 same-length c = search needs
 
--- src/lib.rt:155:1
 same-length-2 : tie.Need-same-length-2
 same-length-2 c = search needs
 
--- src/lib.rt:155:1
 same-length-3 : tie.Need-same-length-3
 same-length-3 c = search needs
 
--- src/lib.rt:155:1
 same-length-4 : tie.Need-same-length-4
 same-length-4 c = search needs
 
--- src/lib.rt:155:1
 returns-4 : tie.Need-returns-4
 returns-4 c = search needs
 

@@ -7,23 +7,15 @@ use Rattle.rules.specs.Quantities.{workRoom}
 use native.Mathlib.Omega.{arith}
 use Prim.Native.Nat.{_<_}
 use mathlib.Core.Path.{refl, _∙_}
-use borrow.Author.Needs.{needs}
 use Rattle.plan.proofs.plan_in.Statement.{statement}
 use Rattle.plan.proofs.plan_in.Tie as tie
-use Rattle.plan.proofs.plan_in.Reads as reads
-use Rattle.plan.proofs.plan_in.Lts as lts
-use Rattle.lists.proofs.areas.clear.Reads as clear-reads
-use Rattle.plan.proofs.choose.Reads as choose-reads
-use Rattle.plan.proofs.make.Reads as make-reads
 
--- src/lib.rt:111:9
 make-requires : tie.Need-make-requires
 make-requires c κs =
     let a = c .before .before .before .before .before .before .before .before .args in
     let p = c .before .before .before .before .before .before .before .before .pre in
     (p .0, (standing (p .0) .some, exact-room (p .1 .1)))
 
--- src/lib.rt:112:9
 choose-requires : tie.Need-choose-requires
 choose-requires c κs =
     let a = c .before .before .before .before .before .before .before .before .before .before .before .before .before .before .before .before .before .before .args in
@@ -36,7 +28,6 @@ choose-requires c κs =
     let some : 0 < a .n = standing (p .0) .some in
     ready (p .0) _ _ _ (m .result) _ r₁ (made-stand (p .0) 0 some (run (a .loads .now) (a .times .now) (a .words .now)) (run (m .last .1 .1 .1 .1 .1 .0) (m .last .1 .1 .1 .1 .1 .1 .0) (m .last .1 .1 .1 .1 .1 .1 .1 .0)) long (m .result) (m .ensures)) (p .1 .0)
 
--- src/lib.rt:113:5
 clear-requires : tie.Need-clear-requires
 clear-requires c κs =
     let a = c .before .before .before .before .before .before .before .before .before .before .before .before .before .before .before .before .before .before .before .before .before .before .before .before .args in
@@ -49,23 +40,18 @@ clear-requires c κs =
     let some : 0 < a .n = standing (p .0) .some in
     omega (arith, e₁ .loads, e₁ .times, e₁ .words)
 
--- src/lib.rt:95:1
 same-length : tie.Need-same-length
 same-length c = c .before .before .before .before .before .before .before .before .before .before .placement .given
 
--- src/lib.rt:95:1
 same-length-2 : tie.Need-same-length-2
 same-length-2 c = c .before .before .before .before .loads2 .given ∙ c .before .before .before .before .before .before .before .before .before .before .before .before .before .before .before .before .before .before .before .before .loads .given
 
--- src/lib.rt:95:1
 same-length-3 : tie.Need-same-length-3
 same-length-3 c = c .before .before .times2 .given ∙ c .before .before .before .before .before .before .before .before .before .before .before .before .before .before .before .before .before .before .times .given
 
--- src/lib.rt:95:1
 same-length-4 : tie.Need-same-length-4
 same-length-4 c = c .before .words2 .given ∙ c .before .before .before .before .before .before .before .before .before .before .before .before .before .before .before .before .before .words .given
 
--- src/lib.rt:95:1
 returns : tie.Need-returns
 returns c =
     let a = c .before .before .before .before .before .before .before .before .before .before .before .before .before .before .before .before .before .before .before .before .before .before .before .before .before .before .before .before .before .before .args in

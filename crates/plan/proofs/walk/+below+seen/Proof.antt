@@ -47,7 +47,6 @@ seen-at t = and 7 seen-kinds.ps (is 7 seen-kinds.ps μ-seen t) seen.Pre
 abbrev seen-below : ℕ → In 7 seen-kinds.ps
 seen-below t = and 7 seen-kinds.ps (falls 7 seen-kinds.ps _<_ μ-seen t) seen.Pre
 
--- src/walk.rt:115:9
 below-row-at-requires : (t : ℕ) → below-lts.Need-row-at-requires (
   row-at-reads.Asked,
   row-at-reads.Learnt,
@@ -69,7 +68,6 @@ below-row-at-requires t c κs =
     let g = p .0 .standing in
     omega (arith, g .few, g .rows-long, g .due-long, p .1 .0 .1)
 
--- src/walk.rt:118:9
 below-next-beside-requires : (t : ℕ) → below-lts.Need-next-beside-requires (
   row-at-reads.Asked,
   row-at-reads.Learnt,
@@ -90,7 +88,6 @@ below-next-beside-requires t c κs =
     let p = s .pre .1 in
     (omega (arith, p .0 .standing .few, p .1 .0 .1), p .0 .linked .long)
 
--- src/walk.rt:120:13
 below-seen-requires : (t : ℕ) → below-lts.Need-seen-requires (
   row-at-reads.Asked,
   row-at-reads.Learnt,
@@ -112,7 +109,6 @@ below-seen-requires t c κs =
     let x = c .before .before .before .before .before .before .before .row-at in
     (omega arith, (p .0, (p .1 .0 .1, (p .1 .1 .0, alone-room (a .rows .now) (a .due .now) (a .types .now) (a .count) (a .n) (a .links .now) (p .0) (a .c) (a .at) (p .1 .0 .0) (p .1 .0 .1) (p .1 .1 .1) (x .result) (x .ensures)))))
 
--- src/walk.rt:121:9
 below-wire-list-requires : (t : ℕ) → below-lts.Need-wire-list-requires (
   row-at-reads.Asked,
   row-at-reads.Learnt,
@@ -139,7 +135,6 @@ below-wire-list-requires t c κs =
     let h = last-wired (a .rows .now) (a .due .now) (a .types .now) (a .count) (a .n) (a .links .now) (p .0) (a .c) (a .at) (p .1 .0 .0) (p .1 .0 .1) (p .1 .1 .1) (x .result) (x .ensures) (y .result) (y .ensures) (c .before .before .before .before .before .before .before .before .before .before .before .before .if1 .taken) (run (a .loads .now) (a .times .now) (a .words .now)) (run (o .last .1 .1 .1 .1 .1 .0) (o .last .1 .1 .1 .1 .1 .1 .0) (o .last .1 .1 .1 .1 .1 .1 .1 .0)) long (o .result) (o .ensures) in
     (r₁, (wired-stand h, (ohms-in (a .rows .now) (a .due .now) (a .types .now) (a .count) (a .n) (a .links .now) (p .0) (a .c) (a .at) (p .1 .0 .0) (p .1 .0 .1) (p .1 .1 .1) (x .result) (x .ensures), h .behind-fit)))
 
--- src/walk.rt:121:9
 below-same-length : (t : ℕ) → below-lts.Need-same-length (
   row-at-reads.Asked,
   row-at-reads.Learnt,
@@ -156,7 +151,6 @@ below-same-length : (t : ℕ) → below-lts.Need-same-length (
 ) (below-at t) below.Post
 below-same-length t c = c .before .before .before .before .loads2 .given ∙ c .before .before .before .before .before .before .before .before .before .before .before .before .before .loads .given
 
--- src/walk.rt:121:9
 below-same-length-2 : (t : ℕ) → below-lts.Need-same-length-2 (
   row-at-reads.Asked,
   row-at-reads.Learnt,
@@ -173,7 +167,6 @@ below-same-length-2 : (t : ℕ) → below-lts.Need-same-length-2 (
 ) (below-at t) below.Post
 below-same-length-2 t c = c .before .before .times2 .given ∙ c .before .before .before .before .before .before .before .before .before .before .before .times .given
 
--- src/walk.rt:121:9
 below-same-length-3 : (t : ℕ) → below-lts.Need-same-length-3 (
   row-at-reads.Asked,
   row-at-reads.Learnt,
@@ -190,7 +183,6 @@ below-same-length-3 : (t : ℕ) → below-lts.Need-same-length-3 (
 ) (below-at t) below.Post
 below-same-length-3 t c = c .before .words2 .given ∙ c .before .before .before .before .before .before .before .before .before .before .words .given
 
--- src/walk.rt:121:9
 below-returns : (t : ℕ) → below-lts.Need-returns (
   row-at-reads.Asked,
   row-at-reads.Learnt,
@@ -217,7 +209,6 @@ below-returns t c =
     let u = c .before .before .before .before .before .wire-list in
     last-made (a .rows .now) (a .due .now) (a .types .now) (a .count) (a .n) (a .links .now) (p .0) (a .c) (a .at) (p .1 .0 .0) (p .1 .0 .1) (p .1 .1 .1) (x .result) (x .ensures) (y .result) (y .ensures) (c .before .before .before .before .before .before .before .before .before .before .before .before .before .before .before .before .before .before .if1 .taken) (run (a .loads .now) (a .times .now) (a .words .now)) (run (o .last .1 .1 .1 .1 .1 .0) (o .last .1 .1 .1 .1 .1 .1 .0) (o .last .1 .1 .1 .1 .1 .1 .1 .0)) long (o .result) (o .ensures) (run (u .last .0) (u .last .1 .0) (u .last .1 .1 .0)) (u .result) (u .ensures)
 
--- src/walk.rt:123:9
 below-below-requires : (t : ℕ) → below-lts.Need-below-requires (
   row-at-reads.Asked,
   row-at-reads.Learnt,
@@ -241,7 +232,6 @@ below-below-requires t c κs =
     let f = next-after (a .rows .now) (a .due .now) (a .types .now) (a .count) (a .n) (a .links .now) (p .0) (a .c) (a .at) (p .1 .0 .0) (p .1 .0 .1) (p .1 .1 .1) (x .result) (x .ensures) (y .result) (y .ensures) in
     (omega (arith, f, c .before .before .before .if1 .left), (p .0, ((omega (arith, f), omega (arith, f, c .before .before .before .if1 .left)), (p .1 .1 .0, next-room (a .rows .now) (a .due .now) (a .types .now) (a .count) (a .n) (a .links .now) (p .0) (a .c) (a .at) (p .1 .0 .0) (p .1 .0 .1) (p .1 .1 .1) (x .result) (x .ensures) (y .result) (y .ensures)))))
 
--- src/walk.rt:124:79
 below-add-seen : (t : ℕ) → below-lts.Need-add-seen (
   row-at-reads.Asked,
   row-at-reads.Learnt,
@@ -258,7 +248,6 @@ below-add-seen : (t : ℕ) → below-lts.Need-add-seen (
 ) (below-at t) below.Post
 below-add-seen t c = omega (arith, c .before .before .before .before .before .before .before .before .below .ensures .fits)
 
--- src/walk.rt:124:9
 below-seen-requires-2 : (t : ℕ) → below-lts.Need-seen-requires-2 (
   row-at-reads.Asked,
   row-at-reads.Learnt,
@@ -284,7 +273,6 @@ below-seen-requires-2 t c κs =
     let long₁ = room-run workRoom r₁ (omega arith) in
     (omega arith, (p .0, (p .1 .0 .1, (r₁, behind-room (a .rows .now) (a .due .now) (a .types .now) (a .count) (a .n) (a .links .now) (p .0) (a .c) (a .at) (p .1 .0 .0) (p .1 .0 .1) (p .1 .1 .1) (x .result) (x .ensures) (y .result) (y .ensures) (c .before .before .before .before .before .before .before .before .before .before .before .before .if1 .left) (run (a .loads .now) (a .times .now) (a .words .now)) (run (b .last .1 .1 .1 .1 .1 .0) (b .last .1 .1 .1 .1 .1 .1 .0) (b .last .1 .1 .1 .1 .1 .1 .1 .0)) long₁ (b .result) (b .ensures)))))
 
--- src/walk.rt:125:5
 below-hang-requires : (t : ℕ) → below-lts.Need-hang-requires (
   row-at-reads.Asked,
   row-at-reads.Learnt,
@@ -313,7 +301,6 @@ below-hang-requires t c κs =
     let long₂ = room-run workRoom r₂ (omega arith) in
     (r₂, (ohms-in (a .rows .now) (a .due .now) (a .types .now) (a .count) (a .n) (a .links .now) (p .0) (a .c) (a .at) (p .1 .0 .0) (p .1 .0 .1) (p .1 .1 .1) (x .result) (x .ensures), both-hang (a .rows .now) (a .due .now) (a .types .now) (a .count) (a .n) (a .links .now) (p .0) (a .c) (a .at) (p .1 .0 .0) (p .1 .0 .1) (p .1 .1 .1) (x .result) (x .ensures) (y .result) (y .ensures) (c .before .before .before .before .before .before .before .before .before .before .before .before .before .before .before .before .before .before .before .before .before .if1 .left) (run (a .loads .now) (a .times .now) (a .words .now)) (run (b .last .1 .1 .1 .1 .1 .0) (b .last .1 .1 .1 .1 .1 .1 .0) (b .last .1 .1 .1 .1 .1 .1 .1 .0)) long₁ (b .result) (b .ensures) (run (o .last .1 .1 .1 .1 .1 .0) (o .last .1 .1 .1 .1 .1 .1 .0) (o .last .1 .1 .1 .1 .1 .1 .1 .0)) long₂ (o .result) (o .ensures)))
 
--- src/walk.rt:96:1
 below-same-length-4 : (t : ℕ) → below-lts.Need-same-length-4 (
   row-at-reads.Asked,
   row-at-reads.Learnt,
@@ -330,7 +317,6 @@ below-same-length-4 : (t : ℕ) → below-lts.Need-same-length-4 (
 ) (below-at t) below.Post
 below-same-length-4 t c = c .before .before .before .before .loads5 .given ∙ c .before .before .before .before .before .before .before .before .before .before .before .before .before .loads4 .given ∙ c .before .before .before .before .before .before .before .before .before .before .before .before .before .before .before .before .before .before .before .before .before .before .loads3 .given
 
--- src/walk.rt:96:1
 below-same-length-5 : (t : ℕ) → below-lts.Need-same-length-5 (
   row-at-reads.Asked,
   row-at-reads.Learnt,
@@ -347,7 +333,6 @@ below-same-length-5 : (t : ℕ) → below-lts.Need-same-length-5 (
 ) (below-at t) below.Post
 below-same-length-5 t c = c .before .before .times5 .given ∙ c .before .before .before .before .before .before .before .before .before .before .before .times4 .given ∙ c .before .before .before .before .before .before .before .before .before .before .before .before .before .before .before .before .before .before .before .before .times3 .given
 
--- src/walk.rt:96:1
 below-same-length-6 : (t : ℕ) → below-lts.Need-same-length-6 (
   row-at-reads.Asked,
   row-at-reads.Learnt,
@@ -364,7 +349,6 @@ below-same-length-6 : (t : ℕ) → below-lts.Need-same-length-6 (
 ) (below-at t) below.Post
 below-same-length-6 t c = c .before .words5 .given ∙ c .before .before .before .before .before .before .before .before .before .before .words4 .given ∙ c .before .before .before .before .before .before .before .before .before .before .before .before .before .before .before .before .before .before .before .words3 .given
 
--- src/walk.rt:96:1
 below-returns-2 : (t : ℕ) → below-lts.Need-returns-2 (
   row-at-reads.Asked,
   row-at-reads.Learnt,
@@ -394,7 +378,6 @@ below-returns-2 t c =
     let u = c .before .before .before .before .before .hang in
     both-made (a .rows .now) (a .due .now) (a .types .now) (a .count) (a .n) (a .links .now) (p .0) (a .c) (a .at) (p .1 .0 .0) (p .1 .0 .1) (p .1 .1 .1) (x .result) (x .ensures) (y .result) (y .ensures) (c .before .before .before .before .before .before .before .before .before .before .before .before .before .before .before .before .before .before .before .before .before .before .before .before .before .before .before .if1 .left) (run (a .loads .now) (a .times .now) (a .words .now)) (run (b .last .1 .1 .1 .1 .1 .0) (b .last .1 .1 .1 .1 .1 .1 .0) (b .last .1 .1 .1 .1 .1 .1 .1 .0)) long₁ (b .result) (b .ensures) (run (o .last .1 .1 .1 .1 .1 .0) (o .last .1 .1 .1 .1 .1 .1 .0) (o .last .1 .1 .1 .1 .1 .1 .1 .0)) long₂ (o .result) (o .ensures) (run (u .last .0) (u .last .1 .0) (u .last .1 .1 .0)) (u .result) (u .ensures)
 
--- src/walk.rt:81:9
 seen-row-at-requires : (t : ℕ) → seen-lts.Need-row-at-requires (
   row-at-reads.Asked,
   row-at-reads.Learnt,
@@ -416,7 +399,6 @@ seen-row-at-requires t c κs =
     let g = p .0 .standing in
     omega (arith, g .few, g .rows-long, g .due-long, p .1 .0)
 
--- src/walk.rt:84:9
 seen-sites-before-requires : (t : ℕ) → seen-lts.Need-sites-before-requires (
   row-at-reads.Asked,
   row-at-reads.Learnt,
@@ -437,7 +419,6 @@ seen-sites-before-requires t c κs =
     let p = s .pre .1 in
     (omega (arith, p .0 .standing .few, p .1 .0), p .0 .linked .long)
 
--- src/walk.rt:85:9
 seen-start-requires : (t : ℕ) → seen-lts.Need-start-requires (
   row-at-reads.Asked,
   row-at-reads.Learnt,
@@ -460,7 +441,6 @@ seen-start-requires t c κs =
     let k = c .before .before .before .sites-before in
     (p .1 .1 .0, start-fits (a .rows .now) (a .due .now) (a .types .now) (a .count) (a .n) (a .links .now) (p .0) (a .row) (a .at) (p .1 .0) (p .1 .1 .1) (x .result) (x .ensures) (k .result) (k .ensures))
 
--- src/walk.rt:87:9
 seen-put-site-requires : (t : ℕ) → seen-lts.Need-put-site-requires (
   row-at-reads.Asked,
   row-at-reads.Learnt,
@@ -487,7 +467,6 @@ seen-put-site-requires t c κs =
     let z : Started (x .result .kind) (run (a .loads .now) (a .times .now) (a .words .now)) (run (u .last .0) (u .last .1 .0) (u .last .1 .1 .0)) (a .at) true = rw (c .before .before .before .if1 .taken) at (u .ensures) in
     (typed (a .rows .now) (a .due .now) (a .types .now) (a .count) (a .n) (a .links .now) (p .0), (r₁, sink-sited (a .rows .now) (a .due .now) (a .types .now) (a .count) (a .n) (a .links .now) (p .0) (a .row) (a .at) (p .1 .0) (p .1 .1 .1) (x .result) (x .ensures) (k .result) (k .ensures) (run (a .loads .now) (a .times .now) (a .words .now)) (run (u .last .0) (u .last .1 .0) (u .last .1 .1 .0)) long z))
 
--- src/walk.rt:87:9
 seen-same-length : (t : ℕ) → seen-lts.Need-same-length (
   row-at-reads.Asked,
   row-at-reads.Learnt,
@@ -504,7 +483,6 @@ seen-same-length : (t : ℕ) → seen-lts.Need-same-length (
 ) (seen-at t) seen.Post
 seen-same-length t c = c .before .before .before .before .loads2 .given ∙ c .before .before .before .before .before .before .before .before .before .before .before .before .before .before .loads .given
 
--- src/walk.rt:87:9
 seen-same-length-2 : (t : ℕ) → seen-lts.Need-same-length-2 (
   row-at-reads.Asked,
   row-at-reads.Learnt,
@@ -521,7 +499,6 @@ seen-same-length-2 : (t : ℕ) → seen-lts.Need-same-length-2 (
 ) (seen-at t) seen.Post
 seen-same-length-2 t c = c .before .before .times2 .given ∙ c .before .before .before .before .before .before .before .before .before .before .before .before .times .given
 
--- src/walk.rt:87:9
 seen-same-length-3 : (t : ℕ) → seen-lts.Need-same-length-3 (
   row-at-reads.Asked,
   row-at-reads.Learnt,
@@ -538,7 +515,6 @@ seen-same-length-3 : (t : ℕ) → seen-lts.Need-same-length-3 (
 ) (seen-at t) seen.Post
 seen-same-length-3 t c = c .before .words2 .given ∙ c .before .before .before .before .before .before .before .before .before .before .before .words .given
 
--- src/walk.rt:87:9
 seen-returns : (t : ℕ) → seen-lts.Need-returns (
   row-at-reads.Asked,
   row-at-reads.Learnt,
@@ -566,7 +542,6 @@ seen-returns t c =
     let v = c .before .before .before .before .before .put-site in
     sink-made (a .rows .now) (a .due .now) (a .types .now) (a .count) (a .n) (a .links .now) (p .0) (a .row) (a .at) (p .1 .0) (p .1 .1 .1) (x .result) (x .ensures) (k .result) (k .ensures) (run (a .loads .now) (a .times .now) (a .words .now)) (run (u .last .0) (u .last .1 .0) (u .last .1 .1 .0)) long (run (v .last .1 .1 .0) (v .last .1 .1 .1 .0) (v .last .1 .1 .1 .1 .0)) (v .result) z (v .ensures)
 
--- src/walk.rt:89:9
 seen-first-below-requires : (t : ℕ) → seen-lts.Need-first-below-requires (
   row-at-reads.Asked,
   row-at-reads.Learnt,
@@ -587,7 +562,6 @@ seen-first-below-requires t c κs =
     let p = s .pre .1 in
     (omega (arith, p .0 .standing .few, p .1 .0), p .0 .linked .long)
 
--- src/walk.rt:90:9
 seen-below-requires : (t : ℕ) → seen-lts.Need-below-requires (
   row-at-reads.Asked,
   row-at-reads.Learnt,
@@ -616,7 +590,6 @@ seen-below-requires t c κs =
     let g = below-there (a .rows .now) (a .due .now) (a .types .now) (a .count) (a .n) (a .links .now) (p .0) (a .row) (a .at) (p .1 .0) (p .1 .1 .1) (x .result) (x .ensures) (k .result) (k .ensures) (run (a .loads .now) (a .times .now) (a .words .now)) (run (u .last .0) (u .last .1 .0) (u .last .1 .1 .0)) z (f .result) (f .ensures) in
     (omega (arith, g), (p .0, ((omega (arith, g), omega (arith, g)), (r₁, below-room (a .rows .now) (a .due .now) (a .types .now) (a .count) (a .n) (a .links .now) (p .0) (a .row) (a .at) (p .1 .0) (p .1 .1 .1) (x .result) (x .ensures) (k .result) (k .ensures) (run (a .loads .now) (a .times .now) (a .words .now)) (run (u .last .0) (u .last .1 .0) (u .last .1 .1 .0)) z (f .result) (f .ensures)))))
 
--- src/walk.rt:91:5
 seen-put-site-requires-2 : (t : ℕ) → seen-lts.Need-put-site-requires-2 (
   row-at-reads.Asked,
   row-at-reads.Learnt,
@@ -647,7 +620,6 @@ seen-put-site-requires-2 t c κs =
     let long₂ = room-run workRoom r₂ (omega arith) in
     (typed (a .rows .now) (a .due .now) (a .types .now) (a .count) (a .n) (a .links .now) (p .0), (r₂, plain-sited (a .rows .now) (a .due .now) (a .types .now) (a .count) (a .n) (a .links .now) (p .0) (a .row) (a .at) (p .1 .0) (p .1 .1 .1) (x .result) (x .ensures) (k .result) (k .ensures) (run (a .loads .now) (a .times .now) (a .words .now)) (run (u .last .0) (u .last .1 .0) (u .last .1 .1 .0)) z (f .result) (f .ensures) (run (b .last .1 .1 .1 .1 .1 .0) (b .last .1 .1 .1 .1 .1 .1 .0) (b .last .1 .1 .1 .1 .1 .1 .1 .0)) long₂ (b .result) (b .ensures)))
 
--- src/walk.rt:62:1
 seen-same-length-4 : (t : ℕ) → seen-lts.Need-same-length-4 (
   row-at-reads.Asked,
   row-at-reads.Learnt,
@@ -664,7 +636,6 @@ seen-same-length-4 : (t : ℕ) → seen-lts.Need-same-length-4 (
 ) (seen-at t) seen.Post
 seen-same-length-4 t c = c .before .before .before .before .loads4 .given ∙ c .before .before .before .before .before .before .before .before .before .before .before .before .before .loads3 .given ∙ c .before .before .before .before .before .before .before .before .before .before .before .before .before .before .before .before .before .before .before .before .before .before .before .before .loads .given
 
--- src/walk.rt:62:1
 seen-same-length-5 : (t : ℕ) → seen-lts.Need-same-length-5 (
   row-at-reads.Asked,
   row-at-reads.Learnt,
@@ -681,7 +652,6 @@ seen-same-length-5 : (t : ℕ) → seen-lts.Need-same-length-5 (
 ) (seen-at t) seen.Post
 seen-same-length-5 t c = c .before .before .times4 .given ∙ c .before .before .before .before .before .before .before .before .before .before .before .times3 .given ∙ c .before .before .before .before .before .before .before .before .before .before .before .before .before .before .before .before .before .before .before .before .before .before .times .given
 
--- src/walk.rt:62:1
 seen-same-length-6 : (t : ℕ) → seen-lts.Need-same-length-6 (
   row-at-reads.Asked,
   row-at-reads.Learnt,
@@ -698,7 +668,6 @@ seen-same-length-6 : (t : ℕ) → seen-lts.Need-same-length-6 (
 ) (seen-at t) seen.Post
 seen-same-length-6 t c = c .before .words4 .given ∙ c .before .before .before .before .before .before .before .before .before .before .words3 .given ∙ c .before .before .before .before .before .before .before .before .before .before .before .before .before .before .before .before .before .before .before .before .before .words .given
 
--- src/walk.rt:62:1
 seen-returns-2 : (t : ℕ) → seen-lts.Need-returns-2 (
   row-at-reads.Asked,
   row-at-reads.Learnt,

@@ -7,22 +7,15 @@ use Rattle.plan.specs.Steps.{room-kept, wired-stand, hang-pair, hang-giv
 use borrow.Author.Needs.{needs}
 use Rattle.plan.proofs.walk.hang.Statement.{statement}
 use Rattle.plan.proofs.walk.hang.Tie as tie
-use Rattle.plan.proofs.walk.hang.Reads as reads
-use Rattle.plan.proofs.walk.hang.Lts as lts
-use Rattle.lists.proofs.branches.join_lists.Reads as join-lists-reads
-use Rattle.lists.proofs.wires.wire_list.Reads as wire-list-reads
 
--- src/walk.rt:23:58
 add-wire-list : tie.Need-add-wire-list
 add-wire-list c = search needs
 
--- src/walk.rt:23:9
 wire-list-requires : tie.Need-wire-list-requires
 wire-list-requires c κs =
     let p = c .before .before .before .before .before .pre in
     (p .0, (wired-stand (p .1 .1 .own), (p .1 .0, p .1 .1 .own .behind-fit)))
 
--- src/walk.rt:24:5
 join-lists-requires : tie.Need-join-lists-requires
 join-lists-requires c κs =
     let p = c .before .before .before .before .before .before .before .before .before .before .before .before .before .before .pre in
@@ -30,19 +23,15 @@ join-lists-requires c κs =
     let g = c .before .before .before .before .before .before .before .before .wire-list in
     (room-kept _ _ _ (p .0) (c .before .before .before .before .before .before .before .loads .given) (c .before .before .before .before .before .times .given) (c .before .before .before .before .words .given), hang-pair (run (a .loads .now) (a .times .now) (a .words .now)) (a .at) (a .m) (a .n) (wireOf (a .r .0) (a .c .0)) (p .1 .1) (room-run workRoom (p .0) (omega arith)) (run (g .last .0) (g .last .1 .0) (g .last .1 .1 .0)) (g .result) (g .ensures))
 
--- src/walk.rt:17:1
 same-length : tie.Need-same-length
 same-length c = search needs
 
--- src/walk.rt:17:1
 same-length-2 : tie.Need-same-length-2
 same-length-2 c = search needs
 
--- src/walk.rt:17:1
 same-length-3 : tie.Need-same-length-3
 same-length-3 c = search needs
 
--- src/walk.rt:17:1
 returns : tie.Need-returns
 returns c =
     let p = c .before .before .before .before .before .before .before .before .before .before .before .before .before .before .before .before .before .before .before .before .pre in

@@ -7,30 +7,22 @@ use native.Mathlib.Omega.{arith}
 use borrow.Author.Needs.{needs}
 use Rattle.plan.proofs.walk.put_site.Statement.{statement}
 use Rattle.plan.proofs.walk.put_site.Tie as tie
-use Rattle.plan.proofs.walk.put_site.Reads as reads
-use Rattle.plan.proofs.walk.put_site.Lts as lts
-use Rattle.lists.proofs.sites.put_types.Reads as put-types-reads
 
--- src/walk.rt:59:9
 put-types-requires : tie.Need-put-types-requires
 put-types-requires c κs =
     let a = c .before .before .before .before .before .before .before .args in
     let p = c .before .before .before .before .before .before .before .pre in
     (sited-types (p .0), (p .1 .0, (sited-stand (a .types .now) (a .count) (run (a .loads .now) (a .times .now) (a .words .now)) (a .at) (a .n) (a .k) (a .site) (p .1 .1), (p .1 .1 .rising, (p .1 .1 .number (c .before .before .before .if1 .taken), p .1 .1 .place)))))
 
--- src/walk.rt:59:9
 same-length : tie.Need-same-length
 same-length c = search needs
 
--- src/walk.rt:59:9
 same-length-2 : tie.Need-same-length-2
 same-length-2 c = search needs
 
--- src/walk.rt:59:9
 same-length-3 : tie.Need-same-length-3
 same-length-3 c = search needs
 
--- src/walk.rt:59:9
 returns : tie.Need-returns
 returns c =
     let a = c .before .before .before .before .before .before .before .before .before .before .before .before .before .args in
@@ -38,7 +30,6 @@ returns c =
     let g = c .before .before .before .before .before .put-types in
     site-put (a .types .now) (a .count) (run (a .loads .now) (a .times .now) (a .words .now)) (a .at) (a .n) (a .k) (a .site) (p .1 .1) (run (g .last .1 .1 .0) (g .last .1 .1 .1 .0) (g .last .1 .1 .1 .1 .0)) (g .result) (c .before .before .before .before .before .before .before .before .before .if1 .taken) (g .ensures)
 
--- src/walk.rt:52:1
 returns-2 : tie.Need-returns-2
 returns-2 c =
     let a = c .before .before .before .before .args in

@@ -3,47 +3,34 @@ use mathlib.Core.Path.{refl}
 use borrow.Author.Needs.{needs}
 use Rattle.plan.proofs.walk.start.Statement.{statement}
 use Rattle.plan.proofs.walk.start.Tie as tie
-use Rattle.plan.proofs.walk.start.Reads as reads
-use Rattle.plan.proofs.walk.start.Lts as lts
-use Rattle.lists.proofs.cells.put_pin.Reads as put-pin-reads
 
--- src/walk.rt:40:25
 enum-told : tie.Need-enum-told
 enum-told c = search needs
 
--- src/walk.rt:41:24
 enum-told-2 : tie.Need-enum-told-2
 enum-told-2 c = search needs
 
--- src/walk.rt:42:20
 enum-known-kind : tie.Need-enum-known-kind
 enum-known-kind c = search needs
 
--- src/walk.rt:45:13
 put-pin-requires : tie.Need-put-pin-requires
 put-pin-requires c κs = search needs
 
--- src/walk.rt:34:1
 returns : tie.Need-returns
 returns c = rw (c .enum-told .given .1) (refl, refl)
 
--- src/walk.rt:34:1
 returns-2 : tie.Need-returns-2
 returns-2 c = rw (c .enum-told2 .given .1) (refl, refl)
 
--- src/walk.rt:34:1
 same-length : tie.Need-same-length
 same-length c = search needs
 
--- src/walk.rt:34:1
 same-length-2 : tie.Need-same-length-2
 same-length-2 c = search needs
 
--- src/walk.rt:34:1
 same-length-3 : tie.Need-same-length-3
 same-length-3 c = search needs
 
--- src/walk.rt:34:1
 returns-3 : tie.Need-returns-3
 returns-3 c = rw (c .before .before .before .before .before .before .before .before .before .before .before .before .kind .given .1) (refl, c .before .before .before .before .before .put-pin .ensures)
 

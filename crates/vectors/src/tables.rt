@@ -1,0 +1,184 @@
+// The areas of a net: words taken from the input, and the sum of the words in use.
+use crate::numbers;
+use crate::stamps;
+use numbers::Number;
+use numbers::Time;
+
+const MOST_WORD: u64 = 4_294_967_295;
+
+// Where the request behind the words starts.
+pub enum Taken {
+    Up(usize),
+    Bad,
+}
+
+// A word, with the place behind the byte that ends it.
+enum Word {
+    At(u32, usize),
+    Bad,
+}
+
+fn word_at(s: &[u8], from: usize) -> Word {
+    let Number::At(n, next) = numbers::number_at(s, from) else {
+        return Word::Bad;
+    };
+    if MOST_WORD < n {
+        return Word::Bad;
+    }
+    if s.len() <= next {
+        return Word::Bad;
+    }
+    Word::At(n as u32, next + 1)
+}
+
+fn due_at(s: &[u8], from: usize) -> Time {
+    let Time::At(t, next) = numbers::time_at(s, from) else {
+        return Time::Bad;
+    };
+    if s.len() <= next {
+        return Time::Bad;
+    }
+    Time::At(t, next + 1)
+}
+
+// The first `count` words of an area are the numbers from `from` on; the others are zero.
+pub fn take_words(s: &[u8], from: usize, area: &mut [u32], count: usize) -> Taken {
+    if area.len() < count {
+        return Taken::Bad;
+    }
+    stamps::set_words(area, false);
+    let mut at = from;
+    let mut i = 0;
+    while i < count {
+        let Word::At(n, next) = word_at(s, at) else {
+            return Taken::Bad;
+        };
+        area[i] = n;
+        at = next;
+        i += 1;
+    }
+    Taken::Up(at)
+}
+
+pub fn take_times(s: &[u8], from: usize, area: &mut [i64], count: usize) -> Taken {
+    if area.len() < count {
+        return Taken::Bad;
+    }
+    stamps::set_times(area, false);
+    let mut at = from;
+    let mut i = 0;
+    while i < count {
+        let Time::At(t, next) = due_at(s, at) else {
+            return Taken::Bad;
+        };
+        area[i] = t;
+        at = next;
+        i += 1;
+    }
+    Taken::Up(at)
+}
+
+// A byte string added to the text once, from place `to` on.
+fn add_bytes(s: &[u8], from: usize, long: usize, text: &mut [u8], to: usize) -> Taken {
+    if s.len() < from {
+        return Taken::Bad;
+    }
+    if s.len() - from < long {
+        return Taken::Bad;
+    }
+    if text.len() < to {
+        return Taken::Bad;
+    }
+    if text.len() - to < long {
+        return Taken::Bad;
+    }
+    let mut i = 0;
+    while i < long {
+        text[to + i] = s[from + i];
+        i += 1;
+    }
+    Taken::Up(to + long)
+}
+
+// The same so many times; how long the text is then.
+pub fn add_times(
+    s: &[u8],
+    from: usize,
+    long: usize,
+    text: &mut [u8],
+    to: usize,
+    times: usize,
+) -> Taken {
+    let mut end = to;
+    let mut i = 0;
+    while i < times {
+        let Taken::Up(e) = add_bytes(s, from, long, text, end) else {
+            return Taken::Bad;
+        };
+        end = e;
+        i += 1;
+    }
+    Taken::Up(end)
+}
+
+// The sum of the words passed, and of all such sums: taken from the last word to the first, that is word times position.
+pub struct Sum {
+    pub words: u64,
+    pub sums: u64,
+}
+
+fn added(sum: Sum, word: u64) -> Sum {
+    let words = std::num::wrapping_add_u64(sum.words, word);
+    Sum {
+        words,
+        sums: std::num::wrapping_add_u64(sum.sums, words),
+    }
+}
+
+fn wide(word: u32) -> u64 {
+    word as u64
+}
+
+// A negative time goes round.
+fn bits(t: i64) -> u64 {
+    let m = numbers::magnitude(t);
+    if t < 0 {
+        return std::num::wrapping_sub_u64(0, m);
+    }
+    m
+}
+
+fn sum_words(area: &[u32], count: usize, before: Sum) -> Sum {
+    if area.len() < count {
+        return before;
+    }
+    let mut sum = before;
+    let mut i = count;
+    while 0 < i {
+        i -= 1;
+        sum = added(sum, wide(area[i]));
+    }
+    sum
+}
+
+fn sum_times(area: &[i64], count: usize, before: Sum) -> Sum {
+    if area.len() < count {
+        return before;
+    }
+    let mut sum = before;
+    let mut i = count;
+    while 0 < i {
+        i -= 1;
+        sum = added(sum, bits(area[i]));
+    }
+    sum
+}
+
+// Over the words in use: types, then rows, then due.
+pub fn sum_of(types: &[u32], rows: &[u32], due: &[i64], type_words: usize, row_words: usize, dues: usize) -> u64 {
+    let none = Sum { words: 0, sums: 0 };
+    let behind = sum_times(due, dues, none);
+    let middle = sum_words(rows, row_words, behind);
+    let all = sum_words(types, type_words, middle);
+    all.sums
+}
