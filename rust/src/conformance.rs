@@ -2,9 +2,7 @@
 //! every lent area, the part beyond its room included. The one thing left open is which of several
 //! placements with the same pair a planner returns.
 
-use crate::entries::{
-    Candidate, Columns, Counts, Entries, Planned, Records, TableWords, Tables,
-};
+use crate::entries::{Candidate, Columns, Counts, Entries, Planned, Records, TableWords, Tables};
 use crate::net::{Placement, Refusal};
 use crate::random::{Lengths, Random};
 use crate::reference::Reference;

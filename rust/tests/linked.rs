@@ -175,7 +175,10 @@ fn text_alike(text: &[u8], random: &mut Random) {
             }
             if short_list || net.is_err() {
                 assert_eq!(list.unwrap_err().to_string(), refused(short_list), "{}", shown(text));
-                assert_eq!((&areas.list_loads, &areas.list_times), (&before.list_loads, &before.list_times));
+                assert_eq!(
+                    (&areas.list_loads, &areas.list_times),
+                    (&before.list_loads, &before.list_times)
+                );
             }
         }
     }
