@@ -18,11 +18,14 @@
 // Before a call the areas that it may write are stamped. `kept` says that each word holds its stamp where the paper leaves it as
 // it was, `changed` that one does not; `cleared` that the room of the work area is all zero, `left` that it is not.
 mod asking;
+mod lines;
 mod numbers;
+mod planning;
 mod requests;
 mod saying;
 mod stamps;
 mod tables;
+mod words;
 
 use requests::Place;
 use requests::Step;
