@@ -1,7 +1,4 @@
 // Each entry asked once, and its answer said.
-use rules::Checking;
-use rules::Reading;
-use rules::Slacking;
 use crate::planning;
 use crate::requests;
 use crate::saying;
@@ -9,6 +6,9 @@ use crate::stamps;
 use crate::tables;
 use crate::words;
 use requests::Place;
+use rules::Checking;
+use rules::Reading;
+use rules::Slacking;
 use words::Word;
 
 const PLACEMENT: usize = 6;
@@ -42,7 +42,13 @@ fn stamp_tables(types: &mut [u32], rows: &mut [u32], due: &mut [i64]) {
     stamps::set_times(due, true);
 }
 
-fn read_lent(p: Place, text: &[u8], types: &mut [u32], rows: &mut [u32], due: &mut [i64]) -> Reading {
+fn read_lent(
+    p: Place,
+    text: &[u8],
+    types: &mut [u32],
+    rows: &mut [u32],
+    due: &mut [i64],
+) -> Reading {
     let long = stamps::least(p.text, text.len());
     let t = stamps::least(p.types, types.len());
     let r = stamps::least(p.rows, rows.len());

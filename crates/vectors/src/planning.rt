@@ -1,9 +1,9 @@
 // plan_net and list_at asked: their areas stamped before and looked at after.
+use crate::saying;
+use crate::stamps;
 use rules::Listing;
 use rules::Planning;
 use rules::Refusal;
-use crate::saying;
-use crate::stamps;
 
 const PLACEMENT: usize = 6;
 
@@ -51,7 +51,12 @@ fn plan_line(
             best[2] = placement[2];
             best[3] = placement[3];
             saying::slack_and_load(slack, load);
-            worked(loads, times, words, stamps::marks_kept(placement, PLACEMENT_ROOM));
+            worked(
+                loads,
+                times,
+                words,
+                stamps::marks_kept(placement, PLACEMENT_ROOM),
+            );
         }
     }
 }
@@ -114,11 +119,22 @@ fn list_line(
     words: &[u64; 3100],
 ) {
     match answer {
-        Listing::Refused(r) => refused(r, loads, times, words, stamps::pairs_kept(list_loads, list_times, 0, 0)),
+        Listing::Refused(r) => refused(
+            r,
+            loads,
+            times,
+            words,
+            stamps::pairs_kept(list_loads, list_times, 0, 0),
+        ),
         Listing::Listed { length } => {
             let long = length as usize;
             pairs(list_loads, list_times, long);
-            worked(loads, times, words, stamps::pairs_kept(list_loads, list_times, long, long));
+            worked(
+                loads,
+                times,
+                words,
+                stamps::pairs_kept(list_loads, list_times, long, long),
+            );
         }
     }
 }

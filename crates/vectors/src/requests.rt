@@ -77,7 +77,8 @@ fn bytes(s: &[u8], p: Place, times: u64, length: u64, text: &mut [u8]) -> Step {
     let Line::Of(_, next) = lines::behind(s, at, length as usize) else {
         return Step::Bad;
     };
-    let Taken::Up(end) = tables::add_times(s, at, length as usize, text, p.text, times as usize) else {
+    let Taken::Up(end) = tables::add_times(s, at, length as usize, text, p.text, times as usize)
+    else {
         return Step::Bad;
     };
     let mut q = p;
