@@ -2,7 +2,9 @@
 //! every lent area, the part beyond its room included. The one thing left open is which of several
 //! placements with the same pair a planner returns.
 
-use crate::entries::{Candidate, Columns, Counts, Entries, Planned, TableWords, Tables};
+use crate::entries::{
+    Candidate, Columns, Counts, Entries, Planned, Records, TableWords, Tables,
+};
 use crate::net::{Placement, Refusal};
 use crate::random::{Lengths, Random};
 use crate::reference::Reference;
@@ -109,8 +111,8 @@ pub fn list_at(subject: &impl Entries, tables: Tables, row: usize, before: &Area
     same("list_at", &got, &expected)
 }
 
-pub fn list_records(subject: &impl Entries, tables: Tables, row: usize, before: &Areas) -> Outcome {
-    fn list(e: &impl Entries, tables: Tables, row: usize, a: &mut Areas) -> Result<usize, Refusal> {
+pub fn list_records(subject: &impl Records, tables: Tables, row: usize, before: &Areas) -> Outcome {
+    fn list(e: &impl Records, tables: Tables, row: usize, a: &mut Areas) -> Result<usize, Refusal> {
         e.list_records(tables, row, &mut a.list_loads, &mut a.list_times, &mut a.records)
     }
     let got = run(before, |areas| list(subject, tables, row, areas));
@@ -158,8 +160,9 @@ fn planned_alike(
     same(&format!("{what}: lent areas"), &after, &expected_after)
 }
 
-/// Every entry on one net given as tables, at areas of these lengths. The placement judged is
-/// what stands in the area by chance and one that marks sites of the net.
+/// Every entry on one net given as tables, at areas of these lengths, and the list at every row and
+/// past the last. The placement judged is what stands in the area by chance and one that marks
+/// sites of the net.
 pub fn every_entry(
     subject: &impl Entries,
     tables: &TableWords,
@@ -169,17 +172,31 @@ pub fn every_entry(
     let relent = relent(tables, random, lengths);
     let tables = relent.lent();
     let areas = Areas::filled(random, lengths);
-    let rows = tables.row_count.min(room::ROWS);
     check_net(subject, tables)?;
     slack_of(subject, tables, &areas.placement)?;
     slack_of(subject, tables, &marks(random, &tables))?;
     plan_net(subject, tables, &areas)?;
+    every_row(tables).try_for_each(|row| list_at(subject, tables, row, &areas))
+}
+
+/// The entries over records, likewise.
+pub fn every_record_entry(
+    subject: &impl Records,
+    tables: &TableWords,
+    random: &mut Random,
+    lengths: Lengths,
+) -> Outcome {
+    let relent = relent(tables, random, lengths);
+    let tables = relent.lent();
+    let areas = Areas::filled(random, lengths);
     plan_records(|t, p, w| subject.plan_records(t, p, w), tables, &areas)?;
-    for row in [0, random.below(rows + 1), rows, rows + 1, usize::MAX] {
-        list_at(subject, tables, row, &areas)?;
-        list_records(subject, tables, row, &areas)?;
-    }
-    Ok(())
+    every_row(tables).try_for_each(|row| list_records(subject, tables, row, &areas))
+}
+
+/// The rows of the net, and some that it hasn't.
+fn every_row(tables: Tables) -> impl Iterator<Item = usize> {
+    let rows = tables.row_count.min(room::ROWS);
+    (0..=rows + 1).chain([usize::MAX])
 }
 
 /// Marks that are mostly legal: now and then a type too many or a site beyond the last.

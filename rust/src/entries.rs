@@ -1,5 +1,5 @@
-//! The public entries over lent areas. A linked library is held against the reference by writing
-//! this trait for it and giving it to [`crate::conformance`].
+//! The public entries over lent areas, as traits. An implementation is held against the reference by
+//! writing them for it and giving it to [`crate::conformance`].
 
 use crate::net::Refusal;
 use crate::room;
@@ -131,7 +131,10 @@ pub trait Entries {
         times: &mut [i64],
         work: Columns,
     ) -> Result<usize, Refusal>;
+}
 
+/// The two entries that use a work area, over a lent run of records in place of columns.
+pub trait Records: Entries {
     /// `plan_net` over a lent run of records.
     fn plan_records(
         &self,

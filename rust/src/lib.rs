@@ -1,5 +1,5 @@
-//! A second, independent implementation of document 01, and what is needed to hold another
-//! implementation against it.
+//! The proved library for Rust, and what holds it to account: a second, independent implementation of
+//! document 01, and what is needed to hold another implementation against it.
 //!
 //! - [`net`]: the safe types: [`Net`], [`Placement`], [`Refusal`]
 //! - [`entries`]: the public entries over lent areas, as a trait
@@ -9,15 +9,17 @@
 //! - [`cases`]: the fixed cases behind `vectors/read.txt` and `vectors/plan.txt`
 //! - [`nets`]: the example nets
 //! - [`conformance`]: holds any implementation of the entries against the reference
+//! - `linked`, with the feature of that name: the proved library behind safe calls
 //!
-//! Everything here is safe Rust over the standard library alone; only a module that links a library
-//! has reason to allow more.
+//! Everything here is safe Rust over the standard library alone but for `linked`, which calls C.
 
 #![deny(unsafe_code)]
 
 pub mod cases;
 pub mod conformance;
 pub mod entries;
+#[cfg(feature = "linked")]
+pub mod linked;
 pub mod net;
 pub mod nets;
 pub mod random;
@@ -25,7 +27,7 @@ pub mod recipe;
 pub mod reference;
 pub mod yardstick;
 
-pub use entries::{Candidate, Columns, Counts, Entries, Planned, TableWords, Tables};
+pub use entries::{Candidate, Columns, Counts, Entries, Planned, Records, TableWords, Tables};
 pub use net::{Kind, Net, Pin, Placement, Refusal, Row, Type};
 
 /// The rooms and ranges of document 01.

@@ -1,13 +1,13 @@
 //! The reference behind its own entries, and the judge itself: an implementation with a known
-//! fault must be told apart. A linked library is tested in the same way, with itself as subject.
+//! fault must be told apart. `linked.rs` tests the proved library in the same way.
 
 use zombrict::conformance::{self, Areas};
 use zombrict::random::{damage_tables, damage_text, Lengths, Random, Sketch};
 use zombrict::reference::Reference;
-use zombrict::{Candidate, Columns, Counts, Entries, Planned, Refusal, Tables};
+use zombrict::{Candidate, Columns, Counts, Entries, Planned, Records, Refusal, Tables};
 
 /// One round over texts, tables and areas of every kind.
-fn round(subject: &impl Entries, random: &mut Random) -> conformance::Outcome {
+fn round(subject: &impl Records, random: &mut Random) -> conformance::Outcome {
     let rows = random.pick(&[6, 12, 30, 60]);
     let net = Sketch::any(random, rows, 20).net(random);
     let text = net.text().into_bytes();
@@ -16,9 +16,12 @@ fn round(subject: &impl Entries, random: &mut Random) -> conformance::Outcome {
     let areas = Areas::filled(random, lengths);
     conformance::read_net(subject, &text, &areas)?;
     conformance::read_net(subject, &damage_text(random, &text), &areas)?;
-    conformance::every_entry(subject, &tables, random, lengths)?;
-    damage_tables(random, &mut tables);
-    conformance::every_entry(subject, &tables, random, lengths)
+    for _ in 0..2 {
+        conformance::every_entry(subject, &tables, random, lengths)?;
+        conformance::every_record_entry(subject, &tables, random, lengths)?;
+        damage_tables(random, &mut tables);
+    }
+    Ok(())
 }
 
 #[test]
@@ -94,7 +97,9 @@ impl Entries for Faulty {
         let length = Reference.list_at(tables, row, loads, times, work)?;
         Ok(length - usize::from(self.0 == Fault::ListCut && length > 1))
     }
+}
 
+impl Records for Faulty {
     fn plan_records(
         &self,
         tables: Tables,

@@ -1,27 +1,40 @@
 //! Times planners side by side in one run: nets per second of each, and the ratio of its time to
-//! the yardstick's. Another planner joins by a line in `planners`.
+//! the yardstick's. With the feature `linked` the proved planner is one of them. Another joins by a
+//! line in `planners`.
 //!
-//! `bench` times every set; `bench SECONDS` gives each planner about so long on each set. `bench
-//! SECONDS again` times the yardstick a second time as if it were another planner: its ratio is
-//! the noise of the machine.
+//! `bench` times every set. A number is about how many seconds each planner has on each set; `again`
+//! times the yardstick a second time as if it were another planner: its ratio is the noise of the
+//! machine; any other word picks the sets whose names hold it.
 
 use std::hint::black_box;
 use std::time::{Duration, Instant};
 use zombrict::random::{Order, Random, Sketch, Tree, Values};
 use zombrict::{room, yardstick, Candidate, Planned, Refusal, TableWords, Tables};
 
-type Plan = fn(Tables, &mut [u64], &mut [Candidate]) -> Result<Planned, Refusal>;
+type Plan = fn(Tables, &mut Lent) -> Result<Planned, Refusal>;
 
 struct Planner {
     name: &'static str,
     plan: Plan,
 }
 
+fn plan_by_yardstick(tables: Tables, lent: &mut Lent) -> Result<Planned, Refusal> {
+    yardstick::plan(tables, &mut lent.placement, &mut lent.work)
+}
+
+#[cfg(feature = "linked")]
+fn plan_by_library(tables: Tables, lent: &mut Lent) -> Result<Planned, Refusal> {
+    use zombrict::{linked::Linked, Entries};
+    Linked.plan_net(tables, &mut lent.placement, lent.columns.lent())
+}
+
 /// The first is what the others are measured against.
 fn planners(again: bool) -> Vec<Planner> {
-    let mut planners = vec![Planner { name: "yardstick", plan: yardstick::plan }];
+    let mut planners = vec![Planner { name: "yardstick", plan: plan_by_yardstick }];
+    #[cfg(feature = "linked")]
+    planners.push(Planner { name: "proved", plan: plan_by_library });
     if again {
-        planners.push(Planner { name: "yardstick again", plan: yardstick::plan });
+        planners.push(Planner { name: "yardstick again", plan: plan_by_yardstick });
     }
     planners
 }
@@ -72,15 +85,22 @@ fn longest_lists() -> TableWords {
     zombrict::Net::read(&text).expect("a good net").tables()
 }
 
-/// What every planner is lent, the same areas for all.
+/// What a planner is lent: a placement, and a work area as a run of records or as columns.
 struct Lent {
     placement: [u64; room::PLACEMENT],
     work: Vec<Candidate>,
+    #[cfg(feature = "linked")]
+    columns: zombrict::linked::Area,
 }
 
 impl Lent {
     fn new() -> Lent {
-        Lent { placement: [0; room::PLACEMENT], work: vec![Candidate::default(); room::WORK] }
+        Lent {
+            placement: [0; room::PLACEMENT],
+            work: vec![Candidate::default(); room::WORK],
+            #[cfg(feature = "linked")]
+            columns: zombrict::linked::Area::new(),
+        }
     }
 
     /// Plans every net once; the slacks' sum keeps the work from being left out, and lets the
@@ -88,7 +108,7 @@ impl Lent {
     fn plan_all(&mut self, plan: Plan, nets: &[TableWords]) -> i64 {
         let mut sum = 0i64;
         for net in nets {
-            let planned = plan(black_box(net.lent()), &mut self.placement, &mut self.work);
+            let planned = plan(black_box(net.lent()), self);
             let planned = planned.expect("a good net");
             sum = sum.wrapping_add(planned.slack).wrapping_add(planned.load.into());
         }
@@ -157,11 +177,16 @@ fn whole_chip(planners: &[Planner]) {
 }
 
 fn main() {
-    let seconds = std::env::args().nth(1).and_then(|word| word.parse().ok()).unwrap_or(1.0);
-    let planners = planners(std::env::args().nth(2).is_some());
-    for set in sets() {
+    let words: Vec<String> = std::env::args().skip(1).collect();
+    let seconds = words.iter().find_map(|word| word.parse().ok()).unwrap_or(1.0);
+    let planners = planners(words.iter().any(|word| word == "again"));
+    let mut picks = words.iter().filter(|word| word.parse::<f64>().is_err() && *word != "again");
+    let pick = picks.next().map_or("", String::as_str);
+    for set in sets().iter().filter(|set| set.name.contains(pick)) {
         let times = time(&planners, &set.nets, Duration::from_secs_f64(seconds));
         report(set.name, set.nets.len(), &planners, &times);
     }
-    whole_chip(&planners);
+    if "169,000 typical".contains(pick) {
+        whole_chip(&planners);
+    }
 }

@@ -1,7 +1,7 @@
 //! The reference behind the public entries: what each lent area holds afterwards.
 
 use super::{check, legal, list_at, plan, read, slack_of};
-use crate::entries::{Candidate, Columns, Counts, Entries, Planned, Tables};
+use crate::entries::{Candidate, Columns, Counts, Entries, Planned, Records, Tables};
 use crate::net::{Net, Placement, Refusal};
 use crate::reference::Pair;
 use crate::room;
@@ -94,7 +94,9 @@ impl Entries for Reference {
         work.clear();
         Ok(hand_out(&list, loads, times))
     }
+}
 
+impl Records for Reference {
     fn plan_records(
         &self,
         tables: Tables,

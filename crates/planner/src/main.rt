@@ -1,0 +1,62 @@
+// The planning program: one net from standard input; its slack, the load on its driver and its repeaters to standard output, or why it
+// is refused.
+use libc::STDIN_FILENO;
+use rules::Planning;
+use rules::Reading;
+
+mod lines;
+
+fn wide(x: u32) -> usize {
+    x as usize
+}
+
+// Of a net that was read: its plan.
+fn plan(
+    types: &[u32; 12],
+    rows: &[u32; 1536],
+    due: &[i64; 256],
+    type_count: usize,
+    row_count: usize,
+) {
+    let mut placement = [0u64; 4];
+    let mut loads = [0u32; 768];
+    let mut times = [0i64; 768];
+    let mut words = [0u64; 3072];
+    let planned = plan::plan_net(
+        types,
+        rows,
+        due,
+        type_count,
+        row_count,
+        &mut placement,
+        &mut loads,
+        &mut times,
+        &mut words,
+    );
+    match planned {
+        Planning::Refused(r) => lines::print_refusal(r),
+        Planning::Planned { slack, load } => {
+            lines::print_slack(slack.0);
+            lines::print_load(load.0);
+            lines::print_buffers(rows, &placement);
+        }
+    }
+}
+
+fn report(text: &[u8]) {
+    let mut types = [0u32; 12];
+    let mut rows = [0u32; 1536];
+    let mut due = [0i64; 256];
+    let read = net::read_net(text, &mut types, &mut rows, &mut due);
+    match read {
+        Reading::Refused(r) => lines::print_refusal(r),
+        Reading::Read { types: t, rows: n } => plan(&types, &rows, &due, wide(t), wide(n)),
+    }
+}
+
+fn main() {
+    // One byte more than a text may have: a text that fills it is too long, and is not read to its end.
+    let mut text = [0u8; 32769];
+    let n = io::read_full(STDIN_FILENO, &mut text);
+    report(&text[..n]);
+}

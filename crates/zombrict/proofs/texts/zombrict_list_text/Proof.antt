@@ -1,0 +1,90 @@
+-- `zombrict::texts::zombrict_list_text` meets its contract: 7 for the answer, then for what is lent, then the text as it was read. Assumes nothing.
+use mathlib.Core.Path.{refl, sym, _∙_}
+use borrow.Author.Needs.{needs}
+use borrow.Author.Tests.{lt-ltb, le-ltb}
+use Rattle.rules.specs.Answers.{listFigures}
+use Rattle.rules.specs.Promises.{shortLent}
+use Rattle.rules.specs.declared.Listing.the-variants.{Refused}
+use Rattle.rules.specs.declared.Refusal.the-variants.{Short}
+use Rattle.zombrict.specs.Crossing.{called-short, called, crossed-refused}
+use Rattle.zombrict.proofs.texts.zombrict_list_text.Statement.{statement}
+use Rattle.zombrict.proofs.texts.zombrict_list_text.Tie as tie
+
+returns : tie.Need-returns
+returns c = called-short (lt-ltb _ _ (c .if1 .taken)) ((refl, refl), refl)
+
+short-list-requires : tie.Need-short-list-requires
+short-list-requires c κs = search needs
+
+tell-refusal-requires : tie.Need-tell-refusal-requires
+tell-refusal-requires c κs = search needs
+
+same-length : tie.Need-same-length
+same-length c = search needs
+
+returns-2 : tie.Need-returns-2
+unfolding listFigures shortLent
+returns-2 c = called (le-ltb _ _ (c .before .before .before .before .before .if1 .left)) (Refused Short, called-short (sym (c .before .before .before .before .short-list .ensures) ∙ c .before .before .before .if2 .taken) (refl, refl), crossed-refused 0 Short refl refl (c .before .tell-refusal .ensures))
+
+slice-aggregate-read-net : tie.Need-slice-aggregate-read-net
+slice-aggregate-read-net c = search needs
+
+slice-aggregate-read-net-2 : tie.Need-slice-aggregate-read-net-2
+slice-aggregate-read-net-2 c = search needs
+
+slice-aggregate-read-net-3 : tie.Need-slice-aggregate-read-net-3
+slice-aggregate-read-net-3 c = search needs
+
+read-net-requires : tie.Need-read-net-requires
+read-net-requires c κs = search needs
+
+slice-aggregate-list-read : tie.Need-slice-aggregate-list-read
+slice-aggregate-list-read c = search needs
+
+slice-aggregate-list-read-2 : tie.Need-slice-aggregate-list-read-2
+slice-aggregate-list-read-2 c = search needs
+
+slice-aggregate-list-read-3 : tie.Need-slice-aggregate-list-read-3
+slice-aggregate-list-read-3 c = search needs
+
+list-read-requires : tie.Need-list-read-requires
+list-read-requires c κs = search needs
+
+tell-listing-requires : tie.Need-tell-listing-requires
+tell-listing-requires c κs = search needs
+
+same-length-2 : tie.Need-same-length-2
+same-length-2 c = search needs
+
+same-length-3 : tie.Need-same-length-3
+same-length-3 c = search needs
+
+same-length-4 : tie.Need-same-length-4
+same-length-4 c = search needs
+
+returns-3 : tie.Need-returns-3
+unfolding shortLent
+returns-3 c = called (le-ltb _ _ (c .before .before .before .before .before .before .before .before .before .before .before .before .before .before .before .before .before .before .before .before .before .if1 .left)) (c .before .before .before .before .before .before .list-read .result, called (sym (c .before .before .before .before .before .before .before .before .before .before .before .before .before .before .before .before .before .before .before .before .short-list .ensures) ∙ c .before .before .before .before .before .before .before .before .before .before .before .before .before .before .before .before .before .before .before .if2 .left) (c .before .before .before .before .before .before .before .before .before .before .before .before .before .before .before .read-net .result, _, c .before .before .before .before .before .before .before .before .before .before .before .before .before .before .before .read-net .ensures, c .before .before .before .before .before .before .list-read .ensures), c .before .tell-listing .ensures)
+
+pub zombrict-list-text-spec : {M : Type 1} → statement M
+zombrict-list-text-spec =
+    tie.close
+    (tie.spec
+    returns
+    short-list-requires
+    tell-refusal-requires
+    same-length
+    returns-2
+    slice-aggregate-read-net
+    slice-aggregate-read-net-2
+    slice-aggregate-read-net-3
+    read-net-requires
+    slice-aggregate-list-read
+    slice-aggregate-list-read-2
+    slice-aggregate-list-read-3
+    list-read-requires
+    tell-listing-requires
+    same-length-2
+    same-length-3
+    same-length-4
+    returns-3)

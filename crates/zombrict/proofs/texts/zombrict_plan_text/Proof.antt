@@ -1,0 +1,80 @@
+-- `zombrict::texts::zombrict_plan_text` meets its contract: 7 for the answer, then for what is lent, then the text as it was read. Assumes nothing.
+use mathlib.Core.Path.{refl}
+use borrow.Author.Needs.{needs}
+use borrow.Author.Tests.{lt-ltb, le-ltb}
+use Rattle.rules.specs.Answers.{noTiming, planFigures}
+use Rattle.rules.specs.declared.Planning.the-variants.{Refused}
+use Rattle.rules.specs.declared.Refusal.the-variants.{Short}
+use Rattle.zombrict.specs.Crossing.{called-short, called, crossed-refused}
+use Rattle.zombrict.proofs.texts.zombrict_plan_text.Statement.{statement}
+use Rattle.zombrict.proofs.texts.zombrict_plan_text.Tie as tie
+
+returns : tie.Need-returns
+returns c = called-short (lt-ltb _ _ (c .if1 .taken)) ((refl, refl), refl)
+
+tell-refusal-requires : tie.Need-tell-refusal-requires
+tell-refusal-requires c κs = search needs
+
+same-length : tie.Need-same-length
+same-length c = search needs
+
+returns-2 : tie.Need-returns-2
+unfolding noTiming planFigures
+returns-2 c = called (le-ltb _ _ (c .before .before .before .before .if1 .left)) (Refused Short, called-short (lt-ltb _ _ (c .before .before .before .if2 .taken)) (refl, refl), crossed-refused noTiming Short refl refl (c .before .tell-refusal .ensures))
+
+slice-aggregate-read-net : tie.Need-slice-aggregate-read-net
+slice-aggregate-read-net c = search needs
+
+slice-aggregate-read-net-2 : tie.Need-slice-aggregate-read-net-2
+slice-aggregate-read-net-2 c = search needs
+
+slice-aggregate-read-net-3 : tie.Need-slice-aggregate-read-net-3
+slice-aggregate-read-net-3 c = search needs
+
+read-net-requires : tie.Need-read-net-requires
+read-net-requires c κs = search needs
+
+slice-aggregate-plan-read : tie.Need-slice-aggregate-plan-read
+slice-aggregate-plan-read c = search needs
+
+slice-aggregate-plan-read-2 : tie.Need-slice-aggregate-plan-read-2
+slice-aggregate-plan-read-2 c = search needs
+
+slice-aggregate-plan-read-3 : tie.Need-slice-aggregate-plan-read-3
+slice-aggregate-plan-read-3 c = search needs
+
+plan-read-requires : tie.Need-plan-read-requires
+plan-read-requires c κs = search needs
+
+tell-planning-requires : tie.Need-tell-planning-requires
+tell-planning-requires c κs = search needs
+
+same-length-2 : tie.Need-same-length-2
+same-length-2 c = search needs
+
+same-length-3 : tie.Need-same-length-3
+same-length-3 c = search needs
+
+returns-3 : tie.Need-returns-3
+returns-3 c = called (le-ltb _ _ (c .before .before .before .before .before .before .before .before .before .before .before .before .before .before .before .before .before .before .if1 .left)) (c .before .before .before .before .before .plan-read .result, called (le-ltb _ _ (c .before .before .before .before .before .before .before .before .before .before .before .before .before .before .before .before .before .if2 .left)) (c .before .before .before .before .before .before .before .before .before .before .before .before .before .read-net .result, _, c .before .before .before .before .before .before .before .before .before .before .before .before .before .read-net .ensures, c .before .before .before .before .before .plan-read .ensures), c .before .tell-planning .ensures)
+
+pub zombrict-plan-text-spec : {M : Type 1} → statement M
+zombrict-plan-text-spec =
+    tie.close
+    (tie.spec
+    returns
+    tell-refusal-requires
+    same-length
+    returns-2
+    slice-aggregate-read-net
+    slice-aggregate-read-net-2
+    slice-aggregate-read-net-3
+    read-net-requires
+    slice-aggregate-plan-read
+    slice-aggregate-plan-read-2
+    slice-aggregate-plan-read-3
+    plan-read-requires
+    tell-planning-requires
+    same-length-2
+    same-length-3
+    returns-3)

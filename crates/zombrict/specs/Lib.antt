@@ -1,0 +1,4 @@
+pub mod Crossing
+pub mod Calls
+pub mod Texts
+pub mod TextLaws

@@ -1,0 +1,141 @@
+// The static library: each entry under a name of its own for C and Rust, on numbers and slices only. include/zombrict.h says what each
+// call is lent and answers.
+pub mod answers;
+mod texts;
+
+ghost use Rattle.net.specs.TableSteps.{tablesOf, countsOf};
+ghost use Rattle.plan.specs.Chosen.{columnsOf, lentOf};
+ghost use Rattle.zombrict.specs.Calls.{ReadCall, CheckCall, SlackCall, PlanCall, ListCall};
+
+// Room: words of an answer.
+pub const ANSWER_ROOM: usize = 3;
+
+// The refusal of an area shorter than its room.
+pub const SHORT: u32 = 7;
+
+// A net as text, read into the lent tables. The values answered are the counts of types and rows.
+#[no_mangle]
+pub extern "C" fn zombrict_read(
+    text: &[u8],
+    types: &mut [u32],
+    rows: &mut [u32],
+    due: &mut [i64],
+    answer: &mut [i64],
+) -> u32
+    ensures { λ r. ⌜ ReadCall (now (text .entry)) (tablesOf (now (types .entry)) (now (rows .entry)) (now (due .entry))) (tablesOf (now (types .exit)) (now (rows .exit)) (now (due .exit))) (now (answer .entry)) (now (answer .exit)) r ⌝ }
+{
+    if answer.len() < ANSWER_ROOM {
+        return SHORT;
+    }
+    let a = net::read_net(text, types, rows, due);
+    answers::tell_reading(answer, a)
+}
+
+// A net given as tables, checked.
+#[no_mangle]
+pub extern "C" fn zombrict_check(
+    types: &[u32],
+    rows: &[u32],
+    due: &[i64],
+    type_count: usize,
+    row_count: usize,
+    answer: &mut [i64],
+) -> u32
+    ensures { λ r. ⌜ CheckCall (tablesOf (now (types .entry)) (now (rows .entry)) (now (due .entry))) (countsOf «type_count» «row_count») (now (answer .entry)) (now (answer .exit)) r ⌝ }
+{
+    if answer.len() < ANSWER_ROOM {
+        return SHORT;
+    }
+    let a = net::check_net(types, rows, due, type_count, row_count);
+    answers::tell_checking(answer, a)
+}
+
+// The slack of a given placement. The values answered are the slack and the load on the driver.
+#[no_mangle]
+pub extern "C" fn zombrict_slack(
+    types: &[u32],
+    rows: &[u32],
+    due: &[i64],
+    type_count: usize,
+    row_count: usize,
+    placement: &[u64],
+    answer: &mut [i64],
+) -> u32
+    ensures { λ r. ⌜ SlackCall (tablesOf (now (types .entry)) (now (rows .entry)) (now (due .entry))) (countsOf «type_count» «row_count») (now (placement .entry)) (now (answer .entry)) (now (answer .exit)) r ⌝ }
+{
+    if answer.len() < ANSWER_ROOM {
+        return SHORT;
+    }
+    let a = slack::slack_of(types, rows, due, type_count, row_count, placement);
+    answers::tell_slacking(answer, a)
+}
+
+// A placement of greatest slack. The values answered are the slack and the load on the driver.
+#[no_mangle]
+pub extern "C" fn zombrict_plan(
+    types: &[u32],
+    rows: &[u32],
+    due: &[i64],
+    type_count: usize,
+    row_count: usize,
+    placement: &mut [u64],
+    loads: &mut [u32],
+    times: &mut [i64],
+    words: &mut [u64],
+    answer: &mut [i64],
+) -> u32
+    ensures { λ r. ⌜ PlanCall (tablesOf (now (types .entry)) (now (rows .entry)) (now (due .entry))) (countsOf «type_count» «row_count») (now (placement .entry)) (now (placement .exit)) (columnsOf (now (loads .entry)) (now (times .entry)) (now (words .entry))) (columnsOf (now (loads .exit)) (now (times .exit)) (now (words .exit))) (now (answer .entry)) (now (answer .exit)) r ⌝ }
+{
+    if answer.len() < ANSWER_ROOM {
+        return SHORT;
+    }
+    let a = plan::plan_net(
+        types,
+        rows,
+        due,
+        type_count,
+        row_count,
+        placement,
+        loads,
+        times,
+        words,
+    );
+    answers::tell_planning(answer, a)
+}
+
+// The list of unbeaten pairs at a row. The value answered is its length.
+#[no_mangle]
+pub extern "C" fn zombrict_list(
+    types: &[u32],
+    rows: &[u32],
+    due: &[i64],
+    type_count: usize,
+    row_count: usize,
+    row: usize,
+    list_loads: &mut [u32],
+    list_times: &mut [i64],
+    loads: &mut [u32],
+    times: &mut [i64],
+    words: &mut [u64],
+    answer: &mut [i64],
+) -> u32
+    ensures { λ r. ⌜ ListCall (tablesOf (now (types .entry)) (now (rows .entry)) (now (due .entry))) (countsOf «type_count» «row_count») row (lentOf (now («list_loads» .entry)) (now («list_times» .entry))) (lentOf (now («list_loads» .exit)) (now («list_times» .exit))) (columnsOf (now (loads .entry)) (now (times .entry)) (now (words .entry))) (columnsOf (now (loads .exit)) (now (times .exit)) (now (words .exit))) (now (answer .entry)) (now (answer .exit)) r ⌝ }
+{
+    if answer.len() < ANSWER_ROOM {
+        return SHORT;
+    }
+    let a = plan::list_at(
+        types,
+        rows,
+        due,
+        type_count,
+        row_count,
+        row,
+        list_loads,
+        list_times,
+        loads,
+        times,
+        words,
+    );
+    answers::tell_listing(answer, a)
+}

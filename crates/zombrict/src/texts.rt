@@ -1,0 +1,193 @@
+// The entries for a net as text. Tables and work area are the call's own and stand on the stack, some 45,000 bytes.
+use super::ANSWER_ROOM;
+use super::SHORT;
+use super::answers;
+use rules::Listing;
+use rules::Planning;
+use rules::Reading;
+use rules::Refusal;
+use rules::Slacking;
+ghost use mathlib.Core.Path.{_≡_};
+ghost use mathlib.Core.Bool.{_||_};
+ghost use lib.Dec.{ltb};
+ghost use Rattle.net.specs.TableSteps.{tablesOf};
+ghost use Rattle.plan.specs.Chosen.{lentOf};
+ghost use Rattle.zombrict.specs.Texts.{SlackRead, PlanRead, ListRead, CheckTextCall, SlackTextCall, PlanTextCall, ListTextCall};
+
+const PLACEMENT_ROOM: usize = 4;
+
+const LIST_ROOM: usize = 257;
+
+fn wide(x: u32) -> usize
+    ensures { λ r. ⌜ r ≡ x ⌝ }
+{
+    x as usize
+}
+
+// A net as text, checked. The values answered are the counts of types and rows.
+#[no_mangle]
+pub extern "C" fn zombrict_check_text(text: &[u8], answer: &mut [i64]) -> u32
+    ensures { λ r. ⌜ CheckTextCall (now (text .entry)) (now (answer .entry)) (now (answer .exit)) r ⌝ }
+{
+    if answer.len() < ANSWER_ROOM {
+        return SHORT;
+    }
+    let mut types = [0u32; 12];
+    let mut rows = [0u32; 1536];
+    let mut due = [0i64; 256];
+    let a = net::read_net(text, &mut types, &mut rows, &mut due);
+    answers::tell_reading(answer, a)
+}
+
+fn slack_read(
+    read: Reading,
+    types: &[u32],
+    rows: &[u32],
+    due: &[i64],
+    placement: &[u64],
+) -> Slacking
+    ensures { λ r. ⌜ SlackRead read (tablesOf (now (types .entry)) (now (rows .entry)) (now (due .entry))) (now (placement .entry)) r ⌝ }
+{
+    match read {
+        Reading::Refused(r) => Slacking::Refused(r),
+        Reading::Read { types: t, rows: n } => {
+            slack::slack_of(types, rows, due, wide(t), wide(n), placement)
+        }
+    }
+}
+
+// The slack of a placement on a net given as text.
+#[no_mangle]
+pub extern "C" fn zombrict_slack_text(text: &[u8], placement: &[u64], answer: &mut [i64]) -> u32
+    ensures { λ r. ⌜ SlackTextCall (now (text .entry)) (now (placement .entry)) (now (answer .entry)) (now (answer .exit)) r ⌝ }
+{
+    if answer.len() < ANSWER_ROOM {
+        return SHORT;
+    }
+    if placement.len() < PLACEMENT_ROOM {
+        return answers::tell_refusal(answer, Refusal::Short);
+    }
+    let mut types = [0u32; 12];
+    let mut rows = [0u32; 1536];
+    let mut due = [0i64; 256];
+    let read = net::read_net(text, &mut types, &mut rows, &mut due);
+    let a = slack_read(read, &types, &rows, &due, placement);
+    answers::tell_slacking(answer, a)
+}
+
+fn plan_read(
+    read: Reading,
+    types: &[u32],
+    rows: &[u32],
+    due: &[i64],
+    placement: &mut [u64],
+) -> Planning
+    ensures { λ r. ⌜ PlanRead read (tablesOf (now (types .entry)) (now (rows .entry)) (now (due .entry))) (now (placement .entry)) r (now (placement .exit)) ⌝ }
+{
+    match read {
+        Reading::Refused(r) => Planning::Refused(r),
+        Reading::Read { types: t, rows: n } => {
+            let mut loads = [0u32; 768];
+            let mut times = [0i64; 768];
+            let mut words = [0u64; 3072];
+            plan::plan_net(
+                types,
+                rows,
+                due,
+                wide(t),
+                wide(n),
+                placement,
+                &mut loads,
+                &mut times,
+                &mut words,
+            )
+        }
+    }
+}
+
+// A placement of greatest slack for a net given as text.
+#[no_mangle]
+pub extern "C" fn zombrict_plan_text(text: &[u8], placement: &mut [u64], answer: &mut [i64]) -> u32
+    ensures { λ r. ⌜ PlanTextCall (now (text .entry)) (now (placement .entry)) (now (placement .exit)) (now (answer .entry)) (now (answer .exit)) r ⌝ }
+{
+    if answer.len() < ANSWER_ROOM {
+        return SHORT;
+    }
+    if placement.len() < PLACEMENT_ROOM {
+        return answers::tell_refusal(answer, Refusal::Short);
+    }
+    let mut types = [0u32; 12];
+    let mut rows = [0u32; 1536];
+    let mut due = [0i64; 256];
+    let read = net::read_net(text, &mut types, &mut rows, &mut due);
+    let a = plan_read(read, &types, &rows, &due, placement);
+    answers::tell_planning(answer, a)
+}
+
+fn list_read(
+    read: Reading,
+    types: &[u32],
+    rows: &[u32],
+    due: &[i64],
+    row: usize,
+    list_loads: &mut [u32],
+    list_times: &mut [i64],
+) -> Listing
+    ensures { λ r. ⌜ ListRead read (tablesOf (now (types .entry)) (now (rows .entry)) (now (due .entry))) row (lentOf (now («list_loads» .entry)) (now («list_times» .entry))) r (lentOf (now («list_loads» .exit)) (now («list_times» .exit))) ⌝ }
+{
+    match read {
+        Reading::Refused(r) => Listing::Refused(r),
+        Reading::Read { types: t, rows: n } => {
+            let mut loads = [0u32; 768];
+            let mut times = [0i64; 768];
+            let mut words = [0u64; 3072];
+            plan::list_at(
+                types,
+                rows,
+                due,
+                wide(t),
+                wide(n),
+                row,
+                list_loads,
+                list_times,
+                &mut loads,
+                &mut times,
+                &mut words,
+            )
+        }
+    }
+}
+
+fn short_list(loads: usize, times: usize) -> bool
+    ensures { λ r. ⌜ r ≡ (ltb loads 257 || ltb times 257) ⌝ }
+{
+    if loads < LIST_ROOM {
+        return true;
+    }
+    times < LIST_ROOM
+}
+
+// The list of unbeaten pairs at a row of a net given as text. The value answered is its length.
+#[no_mangle]
+pub extern "C" fn zombrict_list_text(
+    text: &[u8],
+    row: usize,
+    list_loads: &mut [u32],
+    list_times: &mut [i64],
+    answer: &mut [i64],
+) -> u32
+    ensures { λ r. ⌜ ListTextCall (now (text .entry)) row (lentOf (now («list_loads» .entry)) (now («list_times» .entry))) (lentOf (now («list_loads» .exit)) (now («list_times» .exit))) (now (answer .entry)) (now (answer .exit)) r ⌝ }
+{
+    if answer.len() < ANSWER_ROOM {
+        return SHORT;
+    }
+    if short_list(list_loads.len(), list_times.len()) {
+        return answers::tell_refusal(answer, Refusal::Short);
+    }
+    let mut types = [0u32; 12];
+    let mut rows = [0u32; 1536];
+    let mut due = [0i64; 256];
+    let read = net::read_net(text, &mut types, &mut rows, &mut due);
+    let a = list_read(read, &types, &rows, &due, row, list_loads, list_times);
+    answers::tell_listing(answer, a)
+}
