@@ -15,14 +15,18 @@
 //   planned                 slack_of: that placement
 //   list ROW P Q L T W      list_at: loads and times of the list, and the work, lent at these lengths
 //
+// A length is cut to the program's own area, which is longer than the room. A malformed request ends the run with `bad case`.
 // Before a call the areas that it may write are stamped. `kept` says that each word holds its stamp where the paper leaves it as
 // it was, `changed` that one does not; `cleared` that the room of the work area is all zero, `left` that it is not.
 mod asking;
+mod lines;
 mod numbers;
+mod planning;
 mod requests;
 mod saying;
 mod stamps;
 mod tables;
+mod words;
 
 use requests::Place;
 use requests::Step;
@@ -56,6 +60,11 @@ fn run(
 fn main() {
     let mut input = [0u8; INPUT_ROOM];
     let n = io::read_full(0, &mut input);
+    // A full buffer may hold a part of the cases only.
+    if n == INPUT_ROOM {
+        saying::say(b"bad case\n");
+        return;
+    }
     let mut text = [0u8; 40_960];
     let mut types = [0u32; 100];
     let mut rows = [0u32; 3000];

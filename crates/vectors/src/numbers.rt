@@ -40,7 +40,7 @@ fn digit_of(b: u8) -> Digit {
     Digit::Is((b - ZERO) as u64)
 }
 
-// With one digit more; the place tells whether it still fits.
+// With one digit more, where that still fits 64 bits.
 fn grown(n: u64, d: u64, next: usize) -> Number {
     if MOST_TENTH < n {
         return Number::Bad;

@@ -1,8 +1,8 @@
 // What is written: words, numbers and refusals.
+use libc::STDOUT_FILENO;
 use rules::Femtofarad;
 use rules::Femtosecond;
 use rules::Refusal;
-use libc::STDOUT_FILENO;
 
 pub fn say(words: &[u8]) {
     io::write_all(STDOUT_FILENO, words);

@@ -1,4 +1,4 @@
-// The areas of a net: words taken from the input, and the sum of the words in use.
+// What requests set up, taken from the input: the bytes of the text and the words of the tables; and the sum of the words in use.
 use crate::numbers;
 use crate::stamps;
 use numbers::Number;
@@ -109,6 +109,9 @@ pub fn add_times(
     to: usize,
     times: usize,
 ) -> Taken {
+    if long == 0 {
+        return Taken::Up(to);
+    }
     let mut end = to;
     let mut i = 0;
     while i < times {
@@ -175,7 +178,14 @@ fn sum_times(area: &[i64], count: usize, before: Sum) -> Sum {
 }
 
 // Over the words in use: types, then rows, then due.
-pub fn sum_of(types: &[u32], rows: &[u32], due: &[i64], type_words: usize, row_words: usize, dues: usize) -> u64 {
+pub fn sum_of(
+    types: &[u32],
+    rows: &[u32],
+    due: &[i64],
+    type_words: usize,
+    row_words: usize,
+    dues: usize,
+) -> u64 {
     let none = Sum { words: 0, sums: 0 };
     let behind = sum_times(due, dues, none);
     let middle = sum_words(rows, row_words, behind);

@@ -12,6 +12,9 @@ Inv-loop s from long text₀ to times end₀ i₀ text end i = length text ≡ l
 abbrev μ-loop : tie.MeasureT-loop
 μ-loop s from long text₀ to times end₀ i₀ text end i = times - i
 
+returns : tie.Need-returns Inv-loop μ-loop
+returns c = search needs
+
 loop-holds : tie.Need-loop-holds Inv-loop μ-loop
 loop-holds c = search needs
 
@@ -27,8 +30,8 @@ enum-told c = search needs
 same-length : tie.Need-same-length Inv-loop μ-loop
 same-length c = search needs
 
-returns : tie.Need-returns Inv-loop μ-loop
-returns c = search needs
+returns-2 : tie.Need-returns-2 Inv-loop μ-loop
+returns-2 c = search needs
 
 add-i : tie.Need-add-i Inv-loop μ-loop
 add-i c = search needs
@@ -42,8 +45,8 @@ loop-again c = search needs
 same-length-2 : tie.Need-same-length-2 Inv-loop μ-loop
 same-length-2 c = search needs
 
-returns-2 : tie.Need-returns-2 Inv-loop μ-loop
-returns-2 c = search needs
+returns-3 : tie.Need-returns-3 Inv-loop μ-loop
+returns-3 c = search needs
 
 pub add-times-spec : {M : Type 1} → statement M
 add-times-spec =
@@ -51,14 +54,15 @@ add-times-spec =
     (tie.spec
     Inv-loop
     μ-loop
+    returns
     loop-holds
     add-bytes-requires
     enum-known-e
     enum-told
     same-length
-    returns
+    returns-2
     add-i
     loop-less
     loop-again
     same-length-2
-    returns-2)
+    returns-3)

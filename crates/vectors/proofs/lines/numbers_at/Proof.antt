@@ -1,8 +1,8 @@
--- `vectors::requests::numbers_at` is safe and ends: six numbers at most. Assumes nothing.
+-- `vectors::lines::numbers_at` is safe and ends: six numbers at most. Assumes nothing.
 use Prim.Native.Nat.{_-_}
 use borrow.Author.Needs.{needs}
-use Rattle.vectors.proofs.requests.numbers_at.Statement.{statement}
-use Rattle.vectors.proofs.requests.numbers_at.Tie as tie
+use Rattle.vectors.proofs.lines.numbers_at.Statement.{statement}
+use Rattle.vectors.proofs.lines.numbers_at.Tie as tie
 
 abbrev Inv-loop : tie.InvT-loop
 Inv-loop s from n₀ at₀ i₀ n at i = Unit {0}

@@ -1,9 +1,9 @@
--- `vectors::asking::plan` is safe: each area is lent at a length cut to its own. Assumes nothing.
+-- `vectors::planning::plan` is safe: each area is lent at a length cut to its own. Assumes nothing.
 use mathlib.Core.Path.{sym}
 use lib.Seq.{length-take-le}
 use borrow.Author.Needs.{needs}
-use Rattle.vectors.proofs.asking.plan.Statement.{statement}
-use Rattle.vectors.proofs.asking.plan.Tie as tie
+use Rattle.vectors.proofs.planning.plan.Statement.{statement}
+use Rattle.vectors.proofs.planning.plan.Tie as tie
 
 element-copy-out-least : tie.Need-element-copy-out-least
 element-copy-out-least c = search needs

@@ -1,9 +1,9 @@
--- `vectors::requests::word_end` is safe and ends: what is left of the input falls. Assumes nothing.
+-- `vectors::lines::word_end` is safe and ends: what is left of the input falls. Assumes nothing.
 use Prim.Native.Nat.{_-_}
 use lib.ListN.{length}
 use borrow.Author.Needs.{needs}
-use Rattle.vectors.proofs.requests.word_end.Statement.{statement}
-use Rattle.vectors.proofs.requests.word_end.Tie as tie
+use Rattle.vectors.proofs.lines.word_end.Statement.{statement}
+use Rattle.vectors.proofs.lines.word_end.Tie as tie
 
 abbrev Inv-loop : tie.InvT-loop
 Inv-loop s from i₀ i = Unit {0}

@@ -1,8 +1,8 @@
--- `vectors::asking::pairs` is safe and ends: a list is cut to the area it stands in. Assumes nothing.
+-- `vectors::planning::pairs` is safe and ends: a list is cut to the area it stands in. Assumes nothing.
 use Prim.Native.Nat.{_≤_, _-_}
 use borrow.Author.Needs.{needs}
-use Rattle.vectors.proofs.asking.pairs.Statement.{statement}
-use Rattle.vectors.proofs.asking.pairs.Tie as tie
+use Rattle.vectors.proofs.planning.pairs.Statement.{statement}
+use Rattle.vectors.proofs.planning.pairs.Tie as tie
 
 abbrev Inv-loop : tie.InvT-loop
 Inv-loop loads times listed long i₀ i = long ≤ 300

@@ -1,9 +1,9 @@
--- `vectors::requests::code` is safe and ends: the end is within the input, and a number that takes a byte more stays below 2 ^ 64. Assumes nothing.
+-- `vectors::words::code` is safe and ends: the end is within the input, and a number that takes a byte more stays below 2 ^ 64. Assumes nothing.
 use Prim.Native.Nat.{_≤_, _-_}
 use lib.ListN.{length}
 use borrow.Author.Needs.{needs}
-use Rattle.vectors.proofs.requests.code.Statement.{statement}
-use Rattle.vectors.proofs.requests.code.Tie as tie
+use Rattle.vectors.proofs.words.code.Statement.{statement}
+use Rattle.vectors.proofs.words.code.Tie as tie
 
 abbrev Inv-loop : tie.InvT-loop
 Inv-loop s from to end n₀ i₀ n i = end ≤ length s

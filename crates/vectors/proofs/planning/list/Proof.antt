@@ -1,9 +1,9 @@
--- `vectors::asking::list` is safe: each area is lent at a length cut to its own. Assumes nothing.
+-- `vectors::planning::list` is safe: each area is lent at a length cut to its own. Assumes nothing.
 use mathlib.Core.Path.{sym}
 use lib.Seq.{length-take-le}
 use borrow.Author.Needs.{needs}
-use Rattle.vectors.proofs.asking.list.Statement.{statement}
-use Rattle.vectors.proofs.asking.list.Tie as tie
+use Rattle.vectors.proofs.planning.list.Statement.{statement}
+use Rattle.vectors.proofs.planning.list.Tie as tie
 
 element-copy-out-row : tie.Need-element-copy-out-row
 element-copy-out-row c = search needs
