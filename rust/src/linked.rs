@@ -137,11 +137,47 @@ mod c {
     }
 }
 
+/// One call of C. A slice that is read crosses by `in`, one that is written by `out`, each as its
+/// pointer and its length; a number crosses by `number`; `tables` and `work` are the areas of both.
+///
+/// Each slice is borrowed for the length of the call, which is all that the library asks: it takes
+/// any contents at any length, and keeps nothing.
+macro_rules! call {
+    (@ $name:ident [$($done:tt)*]) => {
+        unsafe { c::$name($($done)*) }
+    };
+    (@ $name:ident [$($done:tt)*] in $area:ident, $($rest:tt)*) => {
+        call!(@ $name [$($done)* $area.as_ptr(), $area.len(),] $($rest)*)
+    };
+    (@ $name:ident [$($done:tt)*] out $area:ident, $($rest:tt)*) => {
+        call!(@ $name [$($done)* $area.as_mut_ptr(), $area.len(),] $($rest)*)
+    };
+    (@ $name:ident [$($done:tt)*] number $value:ident, $($rest:tt)*) => {
+        call!(@ $name [$($done)* $value,] $($rest)*)
+    };
+    (@ $name:ident [$($done:tt)*] tables $given:ident, $($rest:tt)*) => {{
+        let Tables { types, rows, due, type_count, row_count } = $given;
+        call!(
+            @ $name [$($done)*]
+            in types, in rows, in due, number type_count, number row_count, $($rest)*
+        )
+    }};
+    (@ $name:ident [$($done:tt)*] work $lent:ident, $($rest:tt)*) => {{
+        let Columns { loads, times, words } = $lent;
+        call!(@ $name [$($done)*] out loads, out times, out words, $($rest)*)
+    }};
+    ($name:ident: $($areas:tt)*) => {
+        call!(@ $name [] $($areas)*)
+    };
+}
+
 /// The place of a refusal, and the two values of an entry.
 pub type Answer = [i64; 3];
 
 /// What a call answered: its values, or the refusal.
-fn settled(number: u32, answer: Answer) -> Result<(i64, i64), Refusal> {
+fn settled(call: impl FnOnce(&mut Answer) -> u32) -> Result<(i64, i64), Refusal> {
+    let mut answer = Answer::default();
+    let number = call(&mut answer);
     let [place, first, second] = answer;
     if number == 0 {
         return Ok((first, second));
@@ -149,16 +185,22 @@ fn settled(number: u32, answer: Answer) -> Result<(i64, i64), Refusal> {
     Err(Refusal { number, place: place as u32 })
 }
 
+fn counted((types, rows): (i64, i64)) -> Counts {
+    Counts { types: types as usize, rows: rows as usize }
+}
+
 fn planned((slack, load): (i64, i64)) -> Planned {
     Planned { slack, load: load as u32 }
+}
+
+fn listed((length, _): (i64, i64)) -> usize {
+    length as usize
 }
 
 /// The entries of the proved library. No call keeps what it is lent.
 #[derive(Clone, Copy, Debug, Default)]
 pub struct Linked;
 
-// Each call of C below is handed pointers and lengths of slices that are borrowed for its length,
-// which is all that the library asks: it takes any contents at any length.
 #[allow(unsafe_code)]
 impl Entries for Linked {
     fn read_net(
@@ -168,63 +210,17 @@ impl Entries for Linked {
         rows: &mut [u32],
         due: &mut [i64],
     ) -> Result<Counts, Refusal> {
-        let mut answer = Answer::default();
-        let number = unsafe {
-            c::zombrict_read(
-                text.as_ptr(),
-                text.len(),
-                types.as_mut_ptr(),
-                types.len(),
-                rows.as_mut_ptr(),
-                rows.len(),
-                due.as_mut_ptr(),
-                due.len(),
-                answer.as_mut_ptr(),
-                answer.len(),
-            )
-        };
-        let (types, rows) = settled(number, answer)?;
-        Ok(Counts { types: types as usize, rows: rows as usize })
+        settled(|answer| call!(zombrict_read: in text, out types, out rows, out due, out answer,))
+            .map(counted)
     }
 
     fn check_net(&self, tables: Tables) -> Result<(), Refusal> {
-        let mut answer = Answer::default();
-        let number = unsafe {
-            c::zombrict_check(
-                tables.types.as_ptr(),
-                tables.types.len(),
-                tables.rows.as_ptr(),
-                tables.rows.len(),
-                tables.due.as_ptr(),
-                tables.due.len(),
-                tables.type_count,
-                tables.row_count,
-                answer.as_mut_ptr(),
-                answer.len(),
-            )
-        };
-        settled(number, answer).map(|_| ())
+        settled(|answer| call!(zombrict_check: tables tables, out answer,)).map(|_| ())
     }
 
     fn slack_of(&self, tables: Tables, placement: &[u64]) -> Result<Planned, Refusal> {
-        let mut answer = Answer::default();
-        let number = unsafe {
-            c::zombrict_slack(
-                tables.types.as_ptr(),
-                tables.types.len(),
-                tables.rows.as_ptr(),
-                tables.rows.len(),
-                tables.due.as_ptr(),
-                tables.due.len(),
-                tables.type_count,
-                tables.row_count,
-                placement.as_ptr(),
-                placement.len(),
-                answer.as_mut_ptr(),
-                answer.len(),
-            )
-        };
-        settled(number, answer).map(planned)
+        settled(|answer| call!(zombrict_slack: tables tables, in placement, out answer,))
+            .map(planned)
     }
 
     fn plan_net(
@@ -233,30 +229,8 @@ impl Entries for Linked {
         placement: &mut [u64],
         work: Columns,
     ) -> Result<Planned, Refusal> {
-        let mut answer = Answer::default();
-        let number = unsafe {
-            c::zombrict_plan(
-                tables.types.as_ptr(),
-                tables.types.len(),
-                tables.rows.as_ptr(),
-                tables.rows.len(),
-                tables.due.as_ptr(),
-                tables.due.len(),
-                tables.type_count,
-                tables.row_count,
-                placement.as_mut_ptr(),
-                placement.len(),
-                work.loads.as_mut_ptr(),
-                work.loads.len(),
-                work.times.as_mut_ptr(),
-                work.times.len(),
-                work.words.as_mut_ptr(),
-                work.words.len(),
-                answer.as_mut_ptr(),
-                answer.len(),
-            )
-        };
-        settled(number, answer).map(planned)
+        settled(|answer| call!(zombrict_plan: tables tables, out placement, work work, out answer,))
+            .map(planned)
     }
 
     fn list_at(
@@ -267,33 +241,14 @@ impl Entries for Linked {
         times: &mut [i64],
         work: Columns,
     ) -> Result<usize, Refusal> {
-        let mut answer = Answer::default();
-        let number = unsafe {
-            c::zombrict_list(
-                tables.types.as_ptr(),
-                tables.types.len(),
-                tables.rows.as_ptr(),
-                tables.rows.len(),
-                tables.due.as_ptr(),
-                tables.due.len(),
-                tables.type_count,
-                tables.row_count,
-                row,
-                loads.as_mut_ptr(),
-                loads.len(),
-                times.as_mut_ptr(),
-                times.len(),
-                work.loads.as_mut_ptr(),
-                work.loads.len(),
-                work.times.as_mut_ptr(),
-                work.times.len(),
-                work.words.as_mut_ptr(),
-                work.words.len(),
-                answer.as_mut_ptr(),
-                answer.len(),
+        let (list_loads, list_times) = (loads, times);
+        settled(|answer| {
+            call!(
+                zombrict_list:
+                tables tables, number row, out list_loads, out list_times, work work, out answer,
             )
-        };
-        settled(number, answer).map(|(length, _)| length as usize)
+        })
+        .map(listed)
     }
 }
 
@@ -301,42 +256,17 @@ impl Entries for Linked {
 #[allow(unsafe_code)]
 impl Linked {
     pub fn check_text(&self, text: &[u8]) -> Result<Counts, Refusal> {
-        let mut answer = Answer::default();
-        let number = unsafe {
-            c::zombrict_check_text(text.as_ptr(), text.len(), answer.as_mut_ptr(), answer.len())
-        };
-        let (types, rows) = settled(number, answer)?;
-        Ok(Counts { types: types as usize, rows: rows as usize })
+        settled(|answer| call!(zombrict_check_text: in text, out answer,)).map(counted)
     }
 
     pub fn slack_text(&self, text: &[u8], placement: &[u64]) -> Result<Planned, Refusal> {
-        let mut answer = Answer::default();
-        let number = unsafe {
-            c::zombrict_slack_text(
-                text.as_ptr(),
-                text.len(),
-                placement.as_ptr(),
-                placement.len(),
-                answer.as_mut_ptr(),
-                answer.len(),
-            )
-        };
-        settled(number, answer).map(planned)
+        settled(|answer| call!(zombrict_slack_text: in text, in placement, out answer,))
+            .map(planned)
     }
 
     pub fn plan_text(&self, text: &[u8], placement: &mut [u64]) -> Result<Planned, Refusal> {
-        let mut answer = Answer::default();
-        let number = unsafe {
-            c::zombrict_plan_text(
-                text.as_ptr(),
-                text.len(),
-                placement.as_mut_ptr(),
-                placement.len(),
-                answer.as_mut_ptr(),
-                answer.len(),
-            )
-        };
-        settled(number, answer).map(planned)
+        settled(|answer| call!(zombrict_plan_text: in text, out placement, out answer,))
+            .map(planned)
     }
 
     pub fn list_text(
@@ -346,38 +276,14 @@ impl Linked {
         loads: &mut [u32],
         times: &mut [i64],
     ) -> Result<usize, Refusal> {
-        let mut answer = Answer::default();
-        let number = unsafe {
-            c::zombrict_list_text(
-                text.as_ptr(),
-                text.len(),
-                row,
-                loads.as_mut_ptr(),
-                loads.len(),
-                times.as_mut_ptr(),
-                times.len(),
-                answer.as_mut_ptr(),
-                answer.len(),
-            )
-        };
-        settled(number, answer).map(|(length, _)| length as usize)
+        settled(|answer| {
+            call!(zombrict_list_text: in text, number row, out loads, out times, out answer,)
+        })
+        .map(listed)
     }
 
     /// One call whose answer's area may be of any length: how a short one is refused.
     pub fn check_into(&self, tables: Tables, answer: &mut [i64]) -> u32 {
-        unsafe {
-            c::zombrict_check(
-                tables.types.as_ptr(),
-                tables.types.len(),
-                tables.rows.as_ptr(),
-                tables.rows.len(),
-                tables.due.as_ptr(),
-                tables.due.len(),
-                tables.type_count,
-                tables.row_count,
-                answer.as_mut_ptr(),
-                answer.len(),
-            )
-        }
+        call!(zombrict_check: tables tables, out answer,)
     }
 }

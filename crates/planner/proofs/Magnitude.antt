@@ -39,8 +39,8 @@ module _ (z : ℤ) (f : SFits w64 z) where
     pub past-cast : T (nonNeg (toZ w64 (ofZ w64 (negsuc 0 -ℤ toZ w64 (ofZ w64 z))))) × Fits w64 (natAbs (toZ w64 (ofZ w64 (negsuc 0 -ℤ toZ w64 (ofZ w64 z)))))
     past-cast = rw back (tt, record { fits = omega (arith, f .sfits) })
 
-    pub past-more : Fits w64 (natAbs (toZ w64 (ofZ w64 (negsuc 0 -ℤ toZ w64 (ofZ w64 z)))) + 1)
-    past-more = rw back (record { fits = omega (arith, f .sfits) })
+    pub past-more : (k : ℕ) → k < 2 ^ 63 → Fits w64 (natAbs (toZ w64 (ofZ w64 (negsuc 0 -ℤ toZ w64 (ofZ w64 z)))) + k)
+    past-more k h = rw back (record { fits = omega (arith, f .sfits) })
 
     pub past-is : natAbs (toZ w64 (ofZ w64 (negsuc 0 -ℤ toZ w64 (ofZ w64 z)))) + 1 ≡ natAbs z
     past-is = rw back (further z (rw (toZ-ofZ f) at e))

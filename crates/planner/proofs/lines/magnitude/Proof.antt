@@ -1,4 +1,5 @@
 -- `planner::lines::magnitude` meets its contract: its laws are in `Magnitude`. Assumes nothing.
+use native.Mathlib.Omega.{arith}
 use borrow.Author.Needs.{needs}
 use Rattle.planner.proofs.Magnitude.{past-fits, past-cast, past-more, past-is, positive-cast}
 use Rattle.planner.proofs.lines.magnitude.Statement.{statement}
@@ -11,7 +12,7 @@ cast-result : tie.Need-cast-result
 cast-result c = past-cast (c .before .args .z) (c .before .fits .z) (c .if1 .taken)
 
 add-result : tie.Need-add-result
-add-result c = past-more (c .before .args .z) (c .before .fits .z) (c .if1 .taken)
+add-result c = past-more (c .before .args .z) (c .before .fits .z) (c .if1 .taken) _ (omega arith)
 
 returns : tie.Need-returns
 returns c = past-is (c .before .args .z) (c .before .fits .z) (c .if1 .taken)

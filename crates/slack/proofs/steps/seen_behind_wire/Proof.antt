@@ -1,5 +1,5 @@
 -- `slack::steps::seen_behind_wire` meets its contract. Assumes nothing.
-use mathlib.Core.Path.{ap, _∙_}
+use mathlib.Core.Path.{_≡_, ap, _∙_}
 use Prim.Native.Nat.{_*_}
 use lib.IntN.{pos}
 use Rattle.units.specs.Times.{less-⊖}
@@ -21,8 +21,8 @@ returns : tie.Need-returns
 returns c =
     let a = c .before .before .before .args in
     let q = c .before .before .together .ensures in
-    let d = c .before .delay in
-    seen-is _ _ _ _ q (c .less .ensures .0 ∙ less-⊖ (a .t .0) (d .result .0) _ (d .ensures .0 ∙ ap (λ z. pos (a .r .0 * z)) q))
+    let delay : c .before .delay .result .0 ≡ pos (a .r .0 * c .before .before .together .result .0) = c .before .delay .ensures .0 in
+    seen-is _ _ _ _ q (c .less .ensures .0 ∙ less-⊖ (a .t .0) (c .before .delay .result .0) _ (delay ∙ ap (λ z. pos (a .r .0 * z)) q))
 
 pub seen-behind-wire-spec : {M : Type 1} → statement M
 seen-behind-wire-spec = tie.close (tie.spec together-requires delay-requires less-requires returns)

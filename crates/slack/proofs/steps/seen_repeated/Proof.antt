@@ -1,5 +1,7 @@
 -- `slack::steps::seen_repeated` meets its contract. Assumes nothing.
-use mathlib.Core.Path.{refl}
+use mathlib.Core.Path.{_≡_, refl}
+use Prim.Native.Nat.{_*_}
+use lib.IntN.{pos}
 use Rattle.slack.specs.Hung.{seen-is}
 use borrow.Author.Needs.{needs}
 use Rattle.slack.proofs.steps.seen_repeated.Statement.{statement}
@@ -15,7 +17,10 @@ less-requires-2 : tie.Need-less-requires-2
 less-requires-2 c κs = search needs
 
 returns : tie.Need-returns
-returns c = seen-is _ _ _ _ refl (cc (c .less2 .ensures .0, c .before .delay .ensures .0, c .before .before .less .ensures .0))
+returns c =
+    let a = c .before .before .before .before .before .before .args in
+    let delay : c .before .delay .result .0 ≡ pos (a .b .resistance .0 * a .l .0) = c .before .delay .ensures .0 in
+    seen-is _ _ _ _ refl (cc (c .less2 .ensures .0, delay, c .before .before .less .ensures .0))
 
 pub seen-repeated-spec : {M : Type 1} → statement M
 seen-repeated-spec = tie.close (tie.spec less-requires delay-requires less-requires-2 returns)
