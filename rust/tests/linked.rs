@@ -169,6 +169,9 @@ fn text_alike(text: &[u8], random: &mut Random) {
             }
         }
         _ => {
+            if net.is_err() {
+                assert_eq!(slack.unwrap_err().to_string(), said(&net), "{}", shown(text));
+            }
             if short || net.is_err() {
                 assert_eq!(planned.unwrap_err().to_string(), refused(short), "{}", shown(text));
                 assert_eq!(areas.placement, before.placement);
