@@ -42,8 +42,8 @@ fn end_line() {
 
 pub fn print_refusal(r: Refusal) {
     io::write_all(STDOUT_FILENO, b"refused");
-    print_number(wide(zombrict::answers::number_of(r)));
-    print_number(wide(zombrict::answers::place_of(r)));
+    print_number(wide(refusals::number_of(r)));
+    print_number(wide(refusals::place_of(r)));
     end_line();
 }
 

@@ -16,38 +16,6 @@ ghost use Rattle.rules.specs.Refusals.{numberOf, placeOf};
 ghost use Rattle.rules.specs.Answers.{readFigures, checkFigures, slackFigures, planFigures, listFigures};
 ghost use Rattle.zombrict.specs.Crossing.{answerRoom, countWords, noWords, timingWords, lengthWords, Crossed};
 
-// The refusal's number in the list of refusals.
-pub fn number_of(r: Refusal) -> u32
-    ensures { λ n. ⌜ n ≡ numberOf r ⌝ }
-{
-    match r {
-        Refusal::Form(_) => 1,
-        Refusal::Range(_) => 2,
-        Refusal::Room(_) => 3,
-        Refusal::Parent(_) => 4,
-        Refusal::Childless(_) => 5,
-        Refusal::Mark(_) => 6,
-        Refusal::Short => 7,
-        Refusal::NoRow => 8,
-    }
-}
-
-// The line it is given for, or 0.
-pub fn place_of(r: Refusal) -> u32
-    ensures { λ n. ⌜ n ≡ placeOf r ⌝ }
-{
-    match r {
-        Refusal::Form(line) => line,
-        Refusal::Range(line) => line,
-        Refusal::Room(line) => line,
-        Refusal::Parent(line) => line,
-        Refusal::Childless(line) => line,
-        Refusal::Mark(line) => line,
-        Refusal::Short => 0,
-        Refusal::NoRow => 0,
-    }
-}
-
 fn wide(x: u32) -> i64
     ensures { λ r. ⌜ r ≡ pos x ⌝ }
 {
@@ -75,8 +43,8 @@ pub fn tell_refusal(answer: &mut [i64], r: Refusal) -> u32
     requires { ⌜ answerRoom ≤ length (now answer) ⌝ }
     ensures { λ n. ⌜ (n ≡ numberOf r) × (now (answer .exit) ≡ written (pos (placeOf r) ∷ pos 0 ∷ pos 0 ∷ []) (now (answer .entry))) ⌝ }
 {
-    put(answer, wide(place_of(r)), 0, 0);
-    number_of(r)
+    put(answer, wide(refusals::place_of(r)), 0, 0);
+    refusals::number_of(r)
 }
 
 pub fn tell_reading(answer: &mut [i64], a: Reading) -> u32

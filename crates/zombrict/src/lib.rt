@@ -1,6 +1,6 @@
 // The static library: each entry under a name of its own for C and Rust, on numbers and slices only. include/zombrict.h says what each
 // call is lent and answers.
-pub mod answers;
+mod answers;
 mod texts;
 
 ghost use Rattle.net.specs.TableSteps.{tablesOf, countsOf};
