@@ -48,3 +48,7 @@ module _ (ls : List ℕ) (ts : List ℤ) (ws : List ℕ) (i : ℕ) (h : i < leng
 -- words put by marks
 pub puts-as : {ws ws′ : List ℕ} {i : ℕ} {p q : Placement} → Puts ws ws′ i p → p ≡ q → Puts ws ws′ i q
 puts-as {ws} {ws′} {i} {p} {q} h e = record { here = h .here ∙ e; else = h .else }
+
+-- put twice at one place
+pub puts-again : {ws ws′ ws″ : List ℕ} {i : ℕ} {p q : Placement} → Puts ws ws′ i p → Puts ws′ ws″ i q → Puts ws ws″ i q
+puts-again h k = record { here = k .here; else = λ j n. k .else j n ∙ h .else j n }

@@ -74,9 +74,7 @@ pub fn joined_at(
     let time = t.0;
     loads[o] = shown;
     times[o] = time;
-    let a = placements::words_at(words, i);
-    let b = placements::words_at(words, j);
-    placements::put_words(words, o, marks::joined(a, b));
+    placements::join_words(words, i, j, o);
 }
 
 // A sink's one candidate, with no marks, put at a place.
@@ -144,6 +142,6 @@ pub fn typed_at(
     let t = time.0;
     loads[to] = shown;
     times[to] = t;
-    let w = placements::words_at(words, from);
-    placements::put_words(words, to, marks::with_mark(w, k, m));
+    placements::copy_words(words, from, to);
+    placements::mark_words(words, to, k, m);
 }

@@ -4,7 +4,7 @@ use native.Mathlib.Omega.{arith}
 use borrow.Author.Needs.{needs}
 use Rattle.laws.specs.Joining.{set}
 use Rattle.units.specs.Bits.{bits-back}
-use Rattle.lists.specs.Stores.{puts-as}
+use Rattle.lists.specs.Stores.{puts-as, puts-again}
 use Rattle.lists.specs.Run.{Candidate, run-at, run-put}
 use Rattle.lists.proofs.cells.typed_at.Statement.{statement}
 use Rattle.lists.proofs.cells.typed_at.Tie as tie
@@ -21,14 +21,11 @@ mul-t c = search needs
 slice-set-from-t : tie.Need-slice-set-from-t
 slice-set-from-t c = search needs
 
-words-at-requires : tie.Need-words-at-requires
-words-at-requires c κs = search needs
+copy-words-requires : tie.Need-copy-words-requires
+copy-words-requires c κs = search needs
 
-with-mark-requires : tie.Need-with-mark-requires
-with-mark-requires c κs = search needs
-
-put-words-requires : tie.Need-put-words-requires
-put-words-requires c κs = search needs
+mark-words-requires : tie.Need-mark-words-requires
+mark-words-requires c κs = search needs
 
 same-length : tie.Need-same-length
 same-length c = search needs
@@ -41,9 +38,12 @@ same-length-3 c = search needs
 
 returns : tie.Need-returns
 returns c =
-    let a = c .before .before .before .before .before .before .before .before .before .before .args in
+    let marked = c .before .before in
+    let copied = marked .before .before .before .before in
+    let a = copied .before .before .before .before .before .args in
     let p = ap (λ (x : Candidate). x .place) (run-at (a .loads .now) (a .times .now) (a .words .now) (a .from) (omega arith) (omega arith)) in
-    rw (bits-back (a .time .0) (omega arith)) (run-put (a .loads .now) (a .times .now) (a .words .now) _ (a .to) (a .input .0) (a .time .0) _ (puts-as (c .before .before .put-words .ensures) (c .before .before .before .with-mark .ensures ∙ ap (set (a .k) (a .m)) (c .before .before .before .before .before .words-at .ensures ∙ sym p))))
+    let put = copied .copy-words .ensures in
+    rw (bits-back (a .time .0) (omega arith)) (run-put (a .loads .now) (a .times .now) (a .words .now) _ (a .to) (a .input .0) (a .time .0) _ (puts-as (puts-again put (marked .mark-words .ensures)) (ap (set (a .k) (a .m)) (put .here ∙ sym p))))
 
 pub typed-at-spec : {M : Type 1} → statement M
 typed-at-spec =
@@ -53,9 +53,8 @@ typed-at-spec =
     slice-write-loads
     mul-t
     slice-set-from-t
-    words-at-requires
-    with-mark-requires
-    put-words-requires
+    copy-words-requires
+    mark-words-requires
     same-length
     same-length-2
     same-length-3
