@@ -18,10 +18,10 @@ use Rattle.laws.specs.Candidates.{Cand}
 use Rattle.laws.specs.Thinning.{lt-true, lt-false}
 use Rattle.laws.specs.Joining.{join}
 use Rattle.laws.specs.Steps.{joined, next, merge, mergeAt}
-use Rattle.lists.specs.Parts.{part, part-nil, part-cons, part-snoc, part-over, part-length}
-use Rattle.lists.specs.Run.{Candidate, blank, run, run-time}
-use Rattle.lists.specs.Made.{Fit, Gives, Room, room-run}
-use Rattle.lists.specs.Moving.{Moved}
+use Rattle.columns.specs.Parts.{part, part-nil, part-cons, part-snoc, part-over, part-length}
+use Rattle.columns.specs.Run.{Candidate, blank, run, run-time}
+use Rattle.columns.specs.Made.{Fit, Gives, Room, room-run}
+use Rattle.columns.specs.Moving.{Moved}
 
 -- two lists stand there, the second behind the first, with room behind them for one less than both
 pub record Pair (w : List Candidate) (at m n : ℕ) : Type 0 where

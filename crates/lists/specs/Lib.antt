@@ -1,13 +1,4 @@
-pub mod Parts
-pub mod Run
-pub mod Made
-pub mod Stands
-pub mod Stores
 pub mod Wiring
-pub mod Moving
 pub mod Branching
-pub mod Choosing
 pub mod Types
-pub mod Gaps
 pub mod Sites
-pub mod Clearing

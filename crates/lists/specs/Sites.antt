@@ -18,13 +18,13 @@ use Rattle.laws.specs.Candidates.{Below, thinIn, covers-refl, front-in}
 use Rattle.laws.specs.Joining.{set as mark}
 use Rattle.laws.specs.Steps.{best, buffered}
 use Rattle.laws.specs.Moves.{typeStep, siteStep}
-use Rattle.lists.specs.Parts.{part, part-cons, part-less, part-part, part-over, part-length, part-first}
-use Rattle.lists.specs.Run.{Candidate, candidate, blank, run}
-use Rattle.lists.specs.Made.{Room, Stand, Gives, room-run}
-use Rattle.lists.specs.Choosing.{delayOf, Chosen}
+use Rattle.columns.specs.Parts.{part, part-cons, part-less, part-part, part-over, part-length, part-first}
+use Rattle.columns.specs.Run.{Candidate, candidate, blank, run}
+use Rattle.columns.specs.Made.{Room, Stand, Gives, room-run}
+use Rattle.columns.specs.Choosing.{delayOf, Chosen}
 use Rattle.lists.specs.Types.{repeaterAt, repeatersOf, repeaters-type, repeaters-length}
-use Rattle.lists.specs.Moving.{Moved}
-use Rattle.lists.specs.Gaps.{Thins}
+use Rattle.columns.specs.Moving.{Moved}
+use Rattle.inserts.specs.Gaps.{Thins}
 
 -- the best of a list behind a repeater
 unfoldable pub chosenBy : Repeater → (Placement → Placement) → List Candidate → Candidate

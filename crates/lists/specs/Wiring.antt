@@ -11,9 +11,9 @@ use lib.Seq.{getD-set-same, getD-set-other}
 use Rattle.rules.specs.Lists.{All}
 use Rattle.laws.specs.Lists.{all-head, all-tail}
 use Rattle.laws.specs.Thinning.{climb, climbed}
-use Rattle.lists.specs.Parts.{part, part-nil, part-cons, part-snoc, part-over, part-under, part-length}
-use Rattle.lists.specs.Run.{Candidate, blank, run, run-time}
-use Rattle.lists.specs.Made.{Fit, Gives}
+use Rattle.columns.specs.Parts.{part, part-nil, part-cons, part-snoc, part-over, part-under, part-length}
+use Rattle.columns.specs.Run.{Candidate, blank, run, run-time}
+use Rattle.columns.specs.Made.{Fit, Gives}
 
 module _ (f : Candidate → Candidate) where
   -- what is kept so far, and what the rest will make of it

@@ -1,13 +1,13 @@
 // Where two lists meet: both are walked together, each once, always moving past the earlier time. Nothing that is so made is ever
 // beaten, so there is no thinning.
-use crate::cells;
-use crate::moves;
+use columns::cells;
+use columns::moves;
 ghost use Prim.Native.Nat.{_+_};
 ghost use Rattle.laws.specs.Joining.{join};
 ghost use Rattle.laws.specs.Steps.{merge};
-ghost use Rattle.lists.specs.Parts.{part};
-ghost use Rattle.lists.specs.Run.{run};
-ghost use Rattle.lists.specs.Made.{Room, Gives};
+ghost use Rattle.columns.specs.Parts.{part};
+ghost use Rattle.columns.specs.Run.{run};
+ghost use Rattle.columns.specs.Made.{Room, Gives};
 ghost use Rattle.lists.specs.Branching.{Pair, Merged};
 
 // Two lists, the second behind the first at `at`: their joined list, written behind both; its end.

@@ -1,9 +1,8 @@
 // The repeaters of a site: of each type the best of the list behind it, put into its place by load, dropping what it beats.
-use crate::cells;
-use crate::choices;
-use crate::inserts;
-use crate::inserts::Bounds;
-use crate::moves;
+use columns::cells;
+use columns::choices;
+use columns::moves;
+use inserts::Bounds;
 use rules::Femtofarad;
 use rules::Ohm;
 ghost use mathlib.Core.Path.{_≡_};
@@ -14,9 +13,9 @@ ghost use Rattle.rules.specs.Lists.{Pairwise};
 ghost use Rattle.laws.specs.Candidates.{Below};
 ghost use Rattle.laws.specs.Joining.{set as mark};
 ghost use Rattle.laws.specs.Moves.{siteStep};
-ghost use Rattle.lists.specs.Parts.{part};
-ghost use Rattle.lists.specs.Run.{run};
-ghost use Rattle.lists.specs.Made.{Room, Stand, Gives};
+ghost use Rattle.columns.specs.Parts.{part};
+ghost use Rattle.columns.specs.Run.{run};
+ghost use Rattle.columns.specs.Made.{Room, Stand, Gives};
 ghost use Rattle.lists.specs.Types.{repeaterAt, repeatersOf, TypesIn};
 ghost use Rattle.lists.specs.Sites.{chosenBy, Chosens};
 

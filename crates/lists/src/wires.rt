@@ -1,6 +1,6 @@
 // A list through a wire, in place. A wire can turn a kept pair into a beaten one, so a candidate is kept only if it is later than the
 // last one kept: behind a wire loads rise strictly.
-use crate::cells;
+use columns::cells;
 use rules::Femtofarad;
 use rules::Ohm;
 ghost use mathlib.Core.List.{map};
@@ -8,9 +8,9 @@ ghost use Prim.Native.Nat.{_+_, _≤_};
 ghost use Rattle.rules.specs.Quantities.{mostOhms};
 ghost use Rattle.rules.specs.Lists.{All};
 ghost use Rattle.laws.specs.Moves.{behind, wireStep};
-ghost use Rattle.lists.specs.Parts.{part};
-ghost use Rattle.lists.specs.Run.{run};
-ghost use Rattle.lists.specs.Made.{Fit, Room, Stand, Gives, wireOf};
+ghost use Rattle.columns.specs.Parts.{part};
+ghost use Rattle.columns.specs.Run.{run};
+ghost use Rattle.columns.specs.Made.{Fit, Room, Stand, Gives, wireOf};
 
 // The n candidates at `at`, behind the wire; how many are left.
 pub fn wire_list(

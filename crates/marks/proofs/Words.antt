@@ -1,29 +1,25 @@
--- What shifts, masks and or do to each mark of a word, and to the marks of four words. Assumes nothing.
-use mathlib.Core.Path.{_≡_, refl, sym, ap, _∙_, fun-ext}
-use mathlib.Core.List.{List, [], _∷_}
-use Prim.Native.Nat.{ℕ, zero, suc, _+_, _*_, _-_, _/_, _%_, _^_, _<_}
+-- What shifts and masks do to each mark of a word, and a word stored to the marks of four. Assumes nothing.
+use mathlib.Core.Path.{_≡_, sym, ap, _∙_}
+use mathlib.Core.List.{List}
+use Prim.Native.Nat.{ℕ, _+_, _*_, _-_, _/_, _%_, _^_, _<_}
 use native.Mathlib.Decide.{decLt, ℕ-discrete}
 use native.Mathlib.Nat.{mod-eq-of-lt, div-eq-of-lt, mul-mod-left, mul-assoc, lt-of-lt-of-le, lt-of-le-of-lt}
 use native.Mathlib.Omega.{arith}
-use lib.Bits.{bitAnd, bitOr, bitXor, and-mask, or-shr, or-mod, xor-shr, xor-mod, and-shr, and-mod, or-zero-l, or-zero-r, and-zero-r, xor-add-and, and-le-l}
+use lib.Bits.{bitAnd, bitOr, bitXor, and-mask, xor-shr, xor-mod, and-shr, and-mod, or-zero-l, or-zero-r, and-zero-r, xor-add-and, and-le-l}
 use lib.Dec.{lit<}
-use lib.ListN.{length, getD, length-set, List·getD-eq-default}
+use lib.ListN.{length, getD, length-set}
 use lib.ListN.{set as store}
 use lib.Pow.{pow-add, pow-mono, shl-shr, shl-lt, ones-split, ones-lt, high, low}
 use lib.Seq.{getD-set-same, getD-set-other}
 use Rattle.rules.specs.Quantities.{placementRoom, sitesRoom}
 use Rattle.rules.specs.Placements.{markIn, marks}
-use Rattle.marks.specs.Marks.{marksInWord, marksEnd, set-unique, markIn-size, markIn-beyond, marks-whole}
-use Rattle.laws.specs.Joining.{set, join, set-here, set-there}
+use Rattle.marks.specs.Marks.{marksInWord, marksEnd, set-unique, markIn-size, markIn-beyond, mark-or, marks-whole}
+use Rattle.laws.specs.Joining.{set, set-here, set-there}
 
--- ---- or, and, not, mark by mark
+-- ---- and, not, mark by mark
 pub mark-mask : (word i : ℕ) → bitAnd (word / 2 ^ (4 * i)) 15 ≡ markIn word i
 unfolding markIn
 mark-mask word i = and-mask (word / 2 ^ (4 * i)) 4
-
-mark-or : (a b i : ℕ) → markIn (bitOr a b) i ≡ bitOr (markIn a i) (markIn b i)
-unfolding markIn
-mark-or a b i = ap (λ (x : ℕ). x % 2 ^ 4) (or-shr a b (4 * i)) ∙ or-mod (a / 2 ^ (4 * i)) (b / 2 ^ (4 * i)) 4
 
 mark-and : (a b i : ℕ) → markIn (bitAnd a b) i ≡ bitAnd (markIn a i) (markIn b i)
 unfolding markIn
@@ -124,19 +120,3 @@ module _ (words : List ℕ) (j m word : ℕ) (four : length words ≡ placementR
 
   pub stored-marks : marks (store words (j / 16) word) ≡ set j m (marks words)
   stored-marks = set-unique j m (marks words) (marks (store words (j / 16) word)) stored-there stored-else
-
--- ---- four words joined with four
-abbrev pub orWords : List ℕ → List ℕ → List ℕ
-orWords a b = bitOr (getD a 0 0) (getD b 0 0) ∷ bitOr (getD a 1 0) (getD b 1 0) ∷ bitOr (getD a 2 0) (getD b 2 0) ∷ bitOr (getD a 3 0) (getD b 3 0) ∷ []
-
-module _ (a b : List ℕ) (a-four : length a ≡ placementRoom) (b-four : length b ≡ placementRoom) where
-  or-word : (n : ℕ) → getD (orWords a b) n 0 ≡ bitOr (getD a n 0) (getD b n 0)
-  or-word zero = refl
-  or-word (suc zero) = refl
-  or-word (suc (suc zero)) = refl
-  or-word (suc (suc (suc zero))) = refl
-  or-word (suc (suc (suc (suc n)))) = rw (List·getD-eq-default a 0 {n = suc (suc (suc (suc n)))} (omega arith), List·getD-eq-default b 0 {n = suc (suc (suc (suc n)))} (omega arith))
-
-  pub joined-marks : marks (orWords a b) ≡ join (marks a) (marks b)
-  unfolding join
-  joined-marks = fun-ext (λ j. marks-whole (orWords a b) j refl ∙ rw (or-word (j / 16), marks-whole a j a-four, marks-whole b j b-four) (mark-or (getD a (j / 16) 0) (getD b (j / 16) 0) (j % 16)))

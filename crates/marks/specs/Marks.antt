@@ -5,12 +5,13 @@ use Prim.Native.Nat.{ℕ, zero, suc, _*_, _/_, _%_, _^_, _≤_, _<_}
 use native.Mathlib.Decide.{ℕ-discrete}
 use native.Mathlib.Nat.{mod-lt, div-eq-of-lt, lt-of-lt-of-le}
 use native.Mathlib.Omega.{arith}
+use lib.Bits.{bitOr, or-shr, or-mod}
 use lib.ListN.{length, getD, take, length-take, List·getD-eq-default}
 use lib.Pow.{pow-pos, pow-mono}
 use lib.Seq.{getD-take, take-all, take-append-le}
 use Rattle.rules.specs.Quantities.{placementRoom, sitesRoom}
 use Rattle.rules.specs.Placements.{Placement, markIn, marks}
-use Rattle.laws.specs.Joining.{set, set-here, set-there}
+use Rattle.laws.specs.Joining.{set, join, set-here, set-there}
 
 -- how many marks a word has, and the first number that four bits do not hold
 abbrev pub marksInWord : ℕ
@@ -40,6 +41,10 @@ markIn-beyond word i h l = rw (div-eq-of-lt {n = word} {m = 2 ^ (4 * i)} (lt-of-
 markIn-zero : (i : ℕ) → markIn 0 i ≡ 0
 unfolding markIn
 markIn-zero i = rw (div-eq-of-lt {n = 0} {m = 2 ^ (4 * i)} (pow-pos (4 * i)))
+
+pub mark-or : (a b i : ℕ) → markIn (bitOr a b) i ≡ bitOr (markIn a i) (markIn b i)
+unfolding markIn
+mark-or a b i = ap (λ (x : ℕ). x % 2 ^ 4) (or-shr a b (4 * i)) ∙ or-mod (a / 2 ^ (4 * i)) (b / 2 ^ (4 * i)) 4
 
 -- ---- the marks of a placement's words
 pub marks-size : (words : List ℕ) (j : ℕ) → marks words j < marksEnd
@@ -77,3 +82,19 @@ zero-word (suc (suc (suc (suc n)))) = refl
 pub marks-zero : marks (0 ∷ 0 ∷ 0 ∷ 0 ∷ []) ≡ (λ j. 0)
 unfolding marks
 marks-zero = fun-ext (λ j. ap (λ (word : ℕ). markIn word (j % 16)) (zero-word (j / 16)) ∙ markIn-zero (j % 16))
+
+-- ---- four words joined with four
+abbrev pub orWords : List ℕ → List ℕ → List ℕ
+orWords a b = bitOr (getD a 0 0) (getD b 0 0) ∷ bitOr (getD a 1 0) (getD b 1 0) ∷ bitOr (getD a 2 0) (getD b 2 0) ∷ bitOr (getD a 3 0) (getD b 3 0) ∷ []
+
+module _ (a b : List ℕ) (a-four : length a ≡ placementRoom) (b-four : length b ≡ placementRoom) where
+  or-word : (n : ℕ) → getD (orWords a b) n 0 ≡ bitOr (getD a n 0) (getD b n 0)
+  or-word zero = refl
+  or-word (suc zero) = refl
+  or-word (suc (suc zero)) = refl
+  or-word (suc (suc (suc zero))) = refl
+  or-word (suc (suc (suc (suc n)))) = rw (List·getD-eq-default a 0 {n = suc (suc (suc (suc n)))} (omega arith), List·getD-eq-default b 0 {n = suc (suc (suc (suc n)))} (omega arith))
+
+  pub joined-marks : marks (orWords a b) ≡ join (marks a) (marks b)
+  unfolding join
+  joined-marks = fun-ext (λ j. marks-whole (orWords a b) j refl ∙ rw (or-word (j / 16), marks-whole a j a-four, marks-whole b j b-four) (mark-or (getD a (j / 16) 0) (getD b (j / 16) 0) (j % 16)))

@@ -27,9 +27,9 @@ use Rattle.laws.specs.Room.{HasRoom, room-at}
 use Rattle.laws.specs.Walk.{noRow, sitesBefore, seenAt, child, atRow-seen}
 use Rattle.laws.specs.Tabled.{rowAt, rowsFrom, rows-length, repeaterAt, repeatersFrom, repeaters-length, repeaters-at}
 use Rattle.rows.specs.Links.{Links, nextAt, sitesAt, row-is}
-use Rattle.lists.specs.Parts.{part}
-use Rattle.lists.specs.Run.{Candidate, candidate}
-use Rattle.lists.specs.Made.{Gives}
+use Rattle.columns.specs.Parts.{part}
+use Rattle.columns.specs.Run.{Candidate, candidate}
+use Rattle.columns.specs.Made.{Gives}
 use Rattle.plan.specs.Shown.{siteList}
 use Rattle.plan.specs.Made.{Given, Made, Wired, Hang, Sited, Started, Typed}
 use Rattle.plan.specs.Links.{from, room-next, room-alone}

@@ -21,9 +21,9 @@ use Rattle.laws.specs.Accepted.{Accepted}
 use Rattle.laws.specs.Tabled.{rowsFrom, repeaterAt, repeatersFrom}
 use Rattle.laws.specs.Ranges.{RepeaterInRange}
 use Rattle.rows.specs.Links.{Standing, Links}
-use Rattle.lists.specs.Parts.{part}
-use Rattle.lists.specs.Run.{Candidate, candidate}
-use Rattle.lists.specs.Made.{Fit}
+use Rattle.columns.specs.Parts.{part}
+use Rattle.columns.specs.Run.{Candidate, candidate}
+use Rattle.columns.specs.Made.{Fit}
 use Rattle.plan.specs.Shown.{Shows}
 
 -- an accepted net in its tables, with its links

@@ -9,9 +9,9 @@ ghost use Rattle.rules.specs.Quantities.{mostOhms, workRoom};
 ghost use Rattle.laws.specs.Joining.{join};
 ghost use Rattle.laws.specs.Steps.{merge};
 ghost use Rattle.laws.specs.Moves.{wireStep};
-ghost use Rattle.lists.specs.Parts.{part};
-ghost use Rattle.lists.specs.Run.{run};
-ghost use Rattle.lists.specs.Made.{Room, Gives, wireOf};
+ghost use Rattle.columns.specs.Parts.{part};
+ghost use Rattle.columns.specs.Run.{run};
+ghost use Rattle.columns.specs.Made.{Room, Gives, wireOf};
 ghost use Rattle.laws.specs.Room.{HasRoom};
 ghost use Rattle.laws.specs.Walk.{seenAt};
 ghost use Rattle.laws.specs.Tabled.{rowsFrom, repeatersFrom};
@@ -51,7 +51,7 @@ pub fn start(loads: &mut [u32], times: &mut [i64], words: &mut [u64], at: usize,
         Kind::Sink(pin) => {
             let load = pin.load;
             let due = pin.due;
-            lists::cells::put_pin(loads, times, words, at, load, due);
+            columns::cells::put_pin(loads, times, words, at, load, due);
             true
         }
     }

@@ -1,7 +1,7 @@
 -- `marks::joined` meets its contract. Assumes nothing.
 use native.Mathlib.Omega.{arith}
 use borrow.Author.Needs.{needs}
-use Rattle.marks.proofs.Words.{joined-marks}
+use Rattle.marks.specs.Marks.{joined-marks}
 use Rattle.marks.proofs.joined.Statement.{statement}
 use Rattle.marks.proofs.joined.Tie as tie
 

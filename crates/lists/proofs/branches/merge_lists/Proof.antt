@@ -6,8 +6,8 @@ use borrow.Author.Tests.{ltb-true, ltb-false}
 use lib.IntN.{pos}
 use lib.ListN.{getD}
 use Rattle.lists.specs.Branching.{Joining, joining-start, pair-room, joining-fit, joining-again, joining-end, not-both}
-use Rattle.lists.specs.Made.{Room, Sized}
-use Rattle.lists.specs.Run.{run}
+use Rattle.columns.specs.Made.{Room, Sized}
+use Rattle.columns.specs.Run.{run}
 use Rattle.lists.proofs.branches.merge_lists.Statement.{statement}
 use Rattle.lists.proofs.branches.merge_lists.Tie as tie
 

@@ -7,8 +7,8 @@ use lib.ListN.{set}
 use Rattle.laws.specs.Joining.{set as mark}
 use Rattle.lists.specs.Sites.{chosen-made}
 use Rattle.lists.specs.Types.{repeaterAt}
-use Rattle.lists.specs.Choosing.{stand-columns}
-use Rattle.lists.specs.Run.{run}
+use Rattle.columns.specs.Choosing.{stand-columns}
+use Rattle.columns.specs.Run.{run}
 use Rattle.lists.proofs.sites.put_choice.Statement.{statement}
 use Rattle.lists.proofs.sites.put_choice.Tie as tie
 
@@ -50,7 +50,7 @@ unfolding repeaterAt
 best-from-requires c κs =
     let s = c .before .before .before .before .before .before .before .before in
     let g = s .pre .0 .known (s .args .t) (omega arith) in
-    (stand-columns (s .pre .1 .0) (s .pre .1 .1 .0), (g .own, g .resistance))
+    (stand-columns (s .pre .1 .0) (s .pre .1 .1 .0), (omega (arith, g .own), omega (arith, g .resistance)))
 
 add-typed-at : tie.Need-add-typed-at
 add-typed-at c = search needs

@@ -4,8 +4,8 @@ use Prim.Native.Nat.{_+_, _-_, _≤_}
 use native.Mathlib.Omega.{arith}
 use Rattle.lists.specs.Sites.{Chosens, chosens-start, chosens-stand, chosens-step}
 use Rattle.lists.specs.Types.{types-fewer}
-use Rattle.lists.specs.Made.{Room, Sized, room-run}
-use Rattle.lists.specs.Run.{run}
+use Rattle.columns.specs.Made.{Room, Sized, room-run}
+use Rattle.columns.specs.Run.{run}
 use Rattle.lists.proofs.sites.put_choices.Statement.{statement}
 use Rattle.lists.proofs.sites.put_choices.Tie as tie
 

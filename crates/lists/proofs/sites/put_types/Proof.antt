@@ -4,8 +4,8 @@ use Prim.Native.Nat.{_+_, _-_}
 use native.Mathlib.Omega.{arith}
 use Rattle.rules.specs.Quantities.{workRoom}
 use Rattle.lists.specs.Sites.{Typing, typing-start, typing-step, typing-end}
-use Rattle.lists.specs.Made.{Room, Sized, room-run}
-use Rattle.lists.specs.Run.{run}
+use Rattle.columns.specs.Made.{Room, Sized, room-run}
+use Rattle.columns.specs.Run.{run}
 use Rattle.lists.proofs.sites.put_types.Statement.{statement}
 use Rattle.lists.proofs.sites.put_types.Tie as tie
 

@@ -5,9 +5,9 @@ use native.Mathlib.Omega.{arith}
 use Rattle.laws.specs.Moves.{behind, wireStep}
 use Rattle.laws.specs.Lists.{all-head}
 use Rattle.lists.specs.Wiring.{Wiring, wiring-start, wiring-next, wiring-made, wiring-again, wiring-end}
-use Rattle.lists.specs.Made.{Room, Sized, room-run, wireOf}
-use Rattle.lists.specs.Run.{blank, run}
-use Rattle.lists.specs.Parts.{part-cons}
+use Rattle.columns.specs.Made.{Room, Sized, room-run, wireOf}
+use Rattle.columns.specs.Run.{blank, run}
+use Rattle.columns.specs.Parts.{part-cons}
 use Rattle.lists.proofs.wires.wire_list.Statement.{statement}
 use Rattle.lists.proofs.wires.wire_list.Tie as tie
 

@@ -2,8 +2,8 @@
 use Rattle.plan.specs.Code.{typed, start-fits, sink-sited, sink-made, below-there, below-room, plain-sited, plain-made, ohms-in, alone-room, next-after, next-room, last-wired, last-made, behind-room, both-hang, both-made}
 use Rattle.plan.specs.Steps.{room-kept, wired-stand}
 use Rattle.plan.specs.Made.{Started}
-use Rattle.lists.specs.Made.{Room, room-run}
-use Rattle.lists.specs.Run.{run}
+use Rattle.columns.specs.Made.{Room, room-run}
+use Rattle.columns.specs.Run.{run}
 use Rattle.rules.specs.Quantities.{workRoom}
 use native.Mathlib.Omega.{arith}
 use Prim.Native.Nat.{_+_, _*_, _-_}

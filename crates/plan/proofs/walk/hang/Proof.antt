@@ -1,7 +1,7 @@
 -- `plan::walk::hang` meets its contract. Assumes nothing.
-use Rattle.lists.specs.Made.{room-run, wireOf}
+use Rattle.columns.specs.Made.{room-run, wireOf}
 use native.Mathlib.Omega.{arith}
-use Rattle.lists.specs.Run.{run}
+use Rattle.columns.specs.Run.{run}
 use Rattle.rules.specs.Quantities.{workRoom}
 use Rattle.plan.specs.Steps.{room-kept, wired-stand, hang-pair, hang-gives}
 use borrow.Author.Needs.{needs}

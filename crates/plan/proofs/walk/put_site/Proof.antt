@@ -1,7 +1,7 @@
 -- `plan::walk::put_site` meets its contract. Assumes nothing.
 use Rattle.plan.specs.Steps.{sited-types, sited-stand, site-put, site-none}
-use Rattle.lists.specs.Made.{room-run}
-use Rattle.lists.specs.Run.{run}
+use Rattle.columns.specs.Made.{room-run}
+use Rattle.columns.specs.Run.{run}
 use Rattle.rules.specs.Quantities.{workRoom}
 use native.Mathlib.Omega.{arith}
 use borrow.Author.Needs.{needs}

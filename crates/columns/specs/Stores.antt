@@ -1,0 +1,54 @@
+-- What the run is once a candidate's load, time and words are stored. Assumes nothing.
+use mathlib.Core.Path.{_≡_, _∙_}
+use mathlib.Core.List.{List}
+use Prim.Native.Nat.{ℕ, _+_, _*_, _≤_, _<_}
+use lib.IntN.{ℤ, pos}
+use lib.Signed.{mag}
+use lib.ListN.{length, getD, set}
+use Rattle.rules.specs.Quantities.{_⊖_, mostLoad}
+use Rattle.rules.specs.Placements.{Placement}
+use Rattle.rules.specs.Slack.{wireDelay}
+use Rattle.laws.specs.Integers.{minℤ}
+use Rattle.laws.specs.Joining.{join}
+use Rattle.laws.specs.Steps.{joined}
+use Rattle.laws.specs.Moves.{behind}
+use Rattle.columns.specs.Run.{candidate, blank, run, run-at, run-put, placeAt, Puts}
+use Rattle.columns.specs.Made.{Fit, fit-near, wireOf}
+
+module _ (ls : List ℕ) (ts : List ℤ) (ws : List ℕ) (i : ℕ) (h : i < length ls) (k : i < length ts) where
+  -- what a range says of the columns
+  pub column-load : Fit (getD (run ls ts ws) i blank) → getD ls i 0 ≤ mostLoad
+  column-load f = (rw (run-at ls ts ws i h k) at f) .load
+
+  pub column-time : Fit (getD (run ls ts ws) i blank) → mag (getD ts i (pos 0)) ≤ 3_000_000_000_000_000
+  column-time f = fit-near _ (rw (run-at ls ts ws i h k) at f)
+
+  pub wired-load : (r c : ℕ) → Fit (behind (wireOf r c) (getD (run ls ts ws) i blank)) → c + getD ls i 0 ≤ mostLoad
+  unfolding behind
+  wired-load r c f = (rw (run-at ls ts ws i h k) at f) .load
+
+  pub copy-store : (ws′ : List ℕ) (to : ℕ) → Puts ws ws′ to (placeAt ws i) → run (set ls to (getD ls i 0)) (set ts to (getD ts i (pos 0))) ws′ ≡ set (run ls ts ws) to (getD (run ls ts ws) i blank)
+  copy-store ws′ to p = rw (run-at ls ts ws i h k) (run-put ls ts ws ws′ to _ _ _ p)
+
+  pub wired-store : (ws′ : List ℕ) (to r c shown : ℕ) (t : ℤ) → shown ≡ c + getD ls i 0 → t ≡ getD ts i (pos 0) ⊖ (r * shown) → Puts ws ws′ to (placeAt ws i)
+      → run (set ls to shown) (set ts to t) ws′ ≡ set (run ls ts ws) to (behind (wireOf r c) (getD (run ls ts ws) i blank))
+  unfolding behind wireDelay
+  wired-store ws′ to r c shown t e f p = rw (run-at ls ts ws i h k, f, e) (run-put ls ts ws ws′ to _ _ _ p)
+
+  module _ (j : ℕ) (hj : j < length ls) (kj : j < length ts) where
+    pub joined-load : Fit (joined join (getD (run ls ts ws) i blank) (getD (run ls ts ws) j blank)) → getD ls i 0 + getD ls j 0 ≤ mostLoad
+    unfolding joined
+    joined-load f = (rw (run-at ls ts ws i h k, run-at ls ts ws j hj kj) at f) .load
+
+    pub joined-store : (ws′ : List ℕ) (o shown : ℕ) (t : ℤ) → shown ≡ getD ls i 0 + getD ls j 0 → t ≡ minℤ (getD ts i (pos 0)) (getD ts j (pos 0)) → Puts ws ws′ o (join (placeAt ws i) (placeAt ws j))
+        → run (set ls o shown) (set ts o t) ws′ ≡ set (run ls ts ws) o (joined join (getD (run ls ts ws) i blank) (getD (run ls ts ws) j blank))
+    unfolding joined
+    joined-store ws′ o shown t e f p = rw (run-at ls ts ws i h k, run-at ls ts ws j hj kj, f, e) (run-put ls ts ws ws′ o _ _ _ p)
+
+-- words put by marks
+pub puts-as : {ws ws′ : List ℕ} {i : ℕ} {p q : Placement} → Puts ws ws′ i p → p ≡ q → Puts ws ws′ i q
+puts-as {ws} {ws′} {i} {p} {q} h e = record { here = h .here ∙ e; else = h .else }
+
+-- put twice at one place
+pub puts-again : {ws ws′ ws″ : List ℕ} {i : ℕ} {p q : Placement} → Puts ws ws′ i p → Puts ws′ ws″ i q → Puts ws ws″ i q
+puts-again h k = record { here = k .here; else = λ j n. k .else j n ∙ h .else j n }
