@@ -1,5 +1,6 @@
 -- What the words of a row state, test by test. Assumes nothing.
 use mathlib.Core.Path.{_≡_, refl, sym, ap, _∙_}
+use mathlib.Core.List.{List}
 use Prim.Native.Nat.{ℕ, zero, suc, _<_, _^_}
 use lib.Dec.{eqb·suc-zero}
 use lib.IntN.{ℤ, pos, negsuc}
@@ -7,10 +8,16 @@ use lib.Signed.{mag}
 use mir.Syntax.{w64}
 use mir.Val.{toZ, ofZ}
 use borrow.Author.Tests.{ne-eqb}
-use Rattle.rules.specs.Entries.{driver, point, sink, malformed}
+use Rattle.rules.specs.declared.Refusal.the-variants.{Form}
+use Rattle.rules.specs.declared.Checking.{Checking}
+use Rattle.rules.specs.declared.Checking.the-variants.{Refused as NotAccepted}
+use Rattle.rules.specs.Entries.{Entry, driver, point, sink, malformed}
 use Rattle.rules.specs.Tables.{isZero, rowBy}
 use Rattle.text.specs.Stretches.{absurd}
 use Rattle.text.specs.Numbers.{bits-back}
+use Rattle.net.specs.declared.Passed.{Passed}
+use Rattle.net.specs.Lines.{lineFor}
+use Rattle.net.specs.Checks.{checkOf, placeAt}
 
 -- a time that is zero, by its bits
 pub bits-zero : (z : ℤ) → mag z < 2 ^ 63 → ofZ w64 z ≡ 0 → z ≡ pos 0
@@ -67,3 +74,11 @@ unfolding rowBy isZero
 point-time p r c s n (pos zero) e i = absurd (i refl)
 point-time p r c s n (pos (suc m)) e i = rw (e, eqb·suc-zero m)
 point-time p r c s n (negsuc m) e i = rw e
+
+-- ---- the words' check, from what they state
+module _ (rows : List ℕ) (n : Passed) (e : Entry) where
+  pub form-refused : (place : ℕ) → place ≡ placeAt n → malformed ≡ e → NotAccepted (Form place) ≡ checkOf rows n (lineFor (placeAt n) e)
+  form-refused place p h = rw p (ap (λ (x : Entry). checkOf rows n (lineFor (placeAt n) x)) h)
+
+  pub stated-checked : (x : Entry) (r : Checking) → r ≡ checkOf rows n (lineFor (placeAt n) x) → x ≡ e → r ≡ checkOf rows n (lineFor (placeAt n) e)
+  stated-checked x r h g = h ∙ ap (λ (y : Entry). checkOf rows n (lineFor (placeAt n) y)) g

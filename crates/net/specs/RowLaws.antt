@@ -18,9 +18,9 @@ use Rattle.net.specs.declared.Passed.{Passed}
 use Rattle.net.specs.declared.Line.{Line}
 use Rattle.net.specs.declared.Line.the-variants.{Repeater as TypeLine}
 use Rattle.net.specs.Lines.{repeaterOf, wireOf, pinOf, lineFor}
-use Rattle.net.specs.Checks.{checkOf}
-use Rattle.net.specs.Held.{Grown, countedWith, rowWordsOf, dueTimesOf, typeWordsOf}
-use Rattle.net.specs.Entries.{typeAt, rowEntryOf}
+use Rattle.net.specs.Checks.{checkOf, placeAt}
+use Rattle.net.specs.Held.{Grown, withRow, countedWith, rowWordsOf, dueTimesOf, typeWordsOf}
+use Rattle.net.specs.Entries.{typeAt, rowEntryOf, rowCheck}
 use Rattle.net.specs.EntryLaws.{driver-parent, driver-capacitance, driver-site, driver-pin, driver-time, point-pin, point-time, other-row}
 use Rattle.net.specs.Words.{one-read, three-read, six-read}
 
@@ -40,19 +40,20 @@ record Stated (n : Passed) (line : Line) (k p r c s pin : ℕ) (z : ℤ) : Type 
   no-type : typeWordsOf line ≡ []
   one-row : countedWith n line .rows ≡ n .rows + 1
   same-types : countedWith n line .types ≡ n .types
+  by-site : withRow n s ≡ countedWith n line
 
 module _ (n : Passed) (place p r c s pin : ℕ) (z : ℤ) where
   driver-stated : (k : ℕ) → k ≡ 0 → p ≡ 0 → c ≡ 0 → s ≡ 0 → pin ≡ 0 → z ≡ pos 0 → Stated n (lineFor place (rowBy k p r c s pin z)) k p r c s pin z
   unfolding rowBy isZero wireOf
-  driver-stated k a b d e f g = rw (a, b, d, e, f, g) (record { words = refl; time = refl; no-type = refl; one-row = refl; same-types = refl })
+  driver-stated k a b d e f g = rw (a, b, d, e, f, g) (record { words = refl; time = refl; no-type = refl; one-row = refl; same-types = refl; by-site = refl })
 
   point-stated : (k : ℕ) → k ≡ 1 → pin ≡ 0 → z ≡ pos 0 → Stated n (lineFor place (rowBy k p r c s pin z)) k p r c s pin z
   unfolding rowBy isZero wireOf
-  point-stated k a f g = rw (a, f, g) (record { words = refl; time = refl; no-type = refl; one-row = refl; same-types = refl })
+  point-stated k a f g = rw (a, f, g) (record { words = refl; time = refl; no-type = refl; one-row = refl; same-types = refl; by-site = refl })
 
   sink-stated : (k : ℕ) → k ≡ 2 → Stated n (lineFor place (rowBy k p r c s pin z)) k p r c s pin z
   unfolding rowBy isZero wireOf pinOf
-  sink-stated k a = rw a (record { words = refl; time = refl; no-type = refl; one-row = refl; same-types = refl })
+  sink-stated k a = rw a (record { words = refl; time = refl; no-type = refl; one-row = refl; same-types = refl; by-site = refl })
 
   row-stated : (k : ℕ) → (malformed ≡ rowBy k p r c s pin z → ⊥) → Stated n (lineFor place (rowBy k p r c s pin z)) k p r c s pin z
   row-stated k good =
@@ -97,12 +98,13 @@ row-grown types rows due n i place line r at line-is r-is a long timed =
       due-grown = rw (st .one-row, st .time, at) (one-read due i (pos 0) timed);
     }
 
--- a row is counted
-pub row-counted : (rows : List ℕ) (due : List ℤ) (n : Passed) (i place : ℕ) (line : Line) (r : Checking) → line ≡ lineFor place (rowEntryOf rows due i)
-    → r ≡ checkOf rows n line → r ≡ Accepted → countedWith n line .rows ≡ n .rows + 1
-row-counted rows due n i place line r line-is r-is a =
-    let good : malformed ≡ rowEntryOf rows due i → ⊥ = λ m. not-malformed rows n line r place (line-is ∙ ap (lineFor place) (sym m)) r-is a in
-    rw line-is (row-stated n place (getD rows (6 * i + 1) 0) (getD rows (6 * i + 2) 0) (getD rows (6 * i + 3) 0) (getD rows (6 * i + 4) 0) (getD rows (6 * i + 5) 0) (getD due i (pos 0)) (getD rows (6 * i) 0) good .one-row)
+-- a row is counted, and by its site word
+pub row-counted : (rows : List ℕ) (due : List ℤ) (n : Passed) (i : ℕ) (r : Checking) → r ≡ rowCheck rows due n i → r ≡ Accepted
+    → (countedWith n (lineFor (placeAt n) (rowEntryOf rows due i)) .rows ≡ n .rows + 1) × (withRow n (getD rows (6 * i + 4) 0) ≡ countedWith n (lineFor (placeAt n) (rowEntryOf rows due i)))
+row-counted rows due n i r r-is a =
+    let good : malformed ≡ rowEntryOf rows due i → ⊥ = λ m. not-malformed rows n (lineFor (placeAt n) (rowEntryOf rows due i)) r (placeAt n) (ap (lineFor (placeAt n)) (sym m)) r-is a in
+    let st = row-stated n (placeAt n) (getD rows (6 * i + 1) 0) (getD rows (6 * i + 2) 0) (getD rows (6 * i + 3) 0) (getD rows (6 * i + 4) 0) (getD rows (6 * i + 5) 0) (getD due i (pos 0)) (getD rows (6 * i) 0) good in
+    (st .one-row, st .by-site)
 
 pub type-grown : (types rows : List ℕ) (due : List ℤ) (n : Passed) (i : ℕ) (t : Repeater) → n .types ≡ i → t ≡ typeAt types i → 3 * i + 3 ≤ length types
     → Grown n (TypeLine t) types types rows rows due due

@@ -94,7 +94,8 @@ fn no_wire(resistance: Ohm) -> Wire
     }
 }
 
-fn with_row(n: Passed, site: u32) -> Passed
+// How many have passed with a row.
+pub fn with_row(n: Passed, site: u32) -> Passed
     requires { ⌜ FewPassed n ⌝ }
     ensures { λ r. ⌜ r ≡ withRow n site ⌝ }
 {

@@ -4,32 +4,20 @@ use super::Passed;
 use super::ROW_WORDS;
 use super::Repeater;
 use super::Wire;
+use super::ranges::MOST_OHMS;
+use super::ranges::sink_out;
+use super::ranges::type_out;
+use super::ranges::wire_out;
 use rules::Checking;
 use rules::Ohm;
-use rules::Pin;
 use rules::Refusal;
 ghost use mathlib.Core.Path.{_≡_};
-ghost use mathlib.Core.Bool.{false, _||_};
+ghost use mathlib.Core.Bool.{false};
 ghost use Prim.Native.Nat.{_+_, _*_, _≤_, _<_};
 ghost use lib.Dec.{ltb, leb, eqb};
 ghost use lib.ListN.{length};
 ghost use Rattle.rules.specs.Quantities.{mostOhms};
-ghost use Rattle.rules.specs.Refusals.{wireOut};
-ghost use Rattle.net.specs.Checks.{checking, firstOf, typeOut, pinOut, manyRows, noParentIn, placeAt, checkOf, FewPassed};
-
-const MOST_OHMS: u32 = 100_000;
-
-const MOST_FEMTOFARADS: u32 = 100_000;
-
-const MOST_OWN: i64 = 1_000_000_000;
-
-const EARLIEST_DUE: i64 = -1_000_000_000_000;
-
-const LATEST_DUE: i64 = 1_000_000_000_000;
-
-const MOST_PARENT: u32 = 255;
-
-const MOST_SITE: u32 = 1;
+ghost use Rattle.net.specs.Checks.{checking, firstOf, typeOut, manyRows, noParentIn, placeAt, checkOf, FewPassed};
 
 const TYPES_ROOM: usize = 4;
 
@@ -61,63 +49,6 @@ fn first_of(form: bool, range: bool, room: bool, parent: bool, place: u32) -> Ch
         return Checking::Refused(Refusal::Parent(place));
     }
     Checking::Accepted
-}
-
-fn type_out(t: Repeater) -> bool
-    ensures { λ r. ⌜ r ≡ typeOut t ⌝ }
-{
-    let input = t.input.0;
-    if MOST_FEMTOFARADS < input {
-        return true;
-    }
-    let resistance = t.resistance.0;
-    if MOST_OHMS < resistance {
-        return true;
-    }
-    let own = t.own.0;
-    MOST_OWN < own
-}
-
-fn wire_out(w: Wire) -> bool
-    ensures { λ r. ⌜ r ≡ wireOut (w .parent) (w .resistance .0) (w .capacitance .0) (w .site) ⌝ }
-{
-    let parent = w.parent;
-    if MOST_PARENT < parent {
-        return true;
-    }
-    let resistance = w.resistance.0;
-    if MOST_OHMS < resistance {
-        return true;
-    }
-    let capacitance = w.capacitance.0;
-    if MOST_FEMTOFARADS < capacitance {
-        return true;
-    }
-    let site = w.site;
-    MOST_SITE < site
-}
-
-fn pin_out(p: Pin) -> bool
-    ensures { λ r. ⌜ r ≡ pinOut p ⌝ }
-{
-    let load = p.load.0;
-    if MOST_FEMTOFARADS < load {
-        return true;
-    }
-    let due = p.due.0;
-    if due < EARLIEST_DUE {
-        return true;
-    }
-    LATEST_DUE < due
-}
-
-fn sink_out(w: Wire, p: Pin) -> bool
-    ensures { λ r. ⌜ r ≡ (wireOut (w .parent) (w .resistance .0) (w .capacitance .0) (w .site) || pinOut p) ⌝ }
-{
-    if wire_out(w) {
-        return true;
-    }
-    pin_out(p)
 }
 
 fn many_rows(n: Passed, site: u32) -> bool
@@ -156,7 +87,7 @@ pub fn check_type(n: Passed, t: Repeater) -> Checking
     first_of(0 < rows, out, TYPES_ROOM <= types, false, place)
 }
 
-fn check_driver(n: Passed, o: Ohm) -> Checking
+pub fn check_driver(n: Passed, o: Ohm) -> Checking
     requires { ⌜ FewPassed n ⌝ }
     ensures { λ r. ⌜ r ≡ checking (firstOf (ltb 0 (n .rows)) (ltb mostOhms (o .0)) false false (placeAt n)) ⌝ }
 {
@@ -167,7 +98,7 @@ fn check_driver(n: Passed, o: Ohm) -> Checking
 }
 
 // A row whose fields are out of range, or are not.
-fn check_row(rows: &[u32], n: Passed, w: Wire, out: bool) -> Checking
+pub fn check_row(rows: &[u32], n: Passed, w: Wire, out: bool) -> Checking
     requires { ⌜ FewPassed n × (6 * n .rows ≤ length (now rows)) ⌝ }
     ensures { λ r. ⌜ r ≡ checking (firstOf (eqb (n .rows) 0) out (manyRows n (w .site)) (noParentIn (now (rows .entry)) (n .rows) (w .parent)) (placeAt n)) ⌝ }
 {

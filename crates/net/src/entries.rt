@@ -1,10 +1,16 @@
-// The entries of a table by value: a type, and the line that a row would have as text.
-use super::Line;
+// The entries of a table by their words: a type by value, and the check of a row.
+use super::Passed;
 use super::ROW_WORDS;
 use super::Repeater;
 use super::TYPE_WORDS;
 use super::Wire;
+use super::checks::check_driver;
+use super::checks::check_row;
+use super::checks::place_of;
 use super::lines::repeater;
+use super::ranges::sink_out;
+use super::ranges::wire_out;
+use rules::Checking;
 use rules::Femtofarad;
 use rules::Femtosecond;
 use rules::Ohm;
@@ -13,9 +19,9 @@ use rules::Refusal;
 ghost use mathlib.Core.Path.{_≡_};
 ghost use Prim.Native.Nat.{_+_, _*_, _≤_, _<_};
 ghost use lib.ListN.{length, getD};
-ghost use Rattle.rules.specs.Tables.{rowBy};
-ghost use Rattle.net.specs.Lines.{wireOf, lineFor};
-ghost use Rattle.net.specs.Entries.{typeAt, rowEntryOf};
+ghost use Rattle.net.specs.Checks.{FewPassed};
+ghost use Rattle.net.specs.Lines.{wireOf};
+ghost use Rattle.net.specs.Entries.{typeAt, wordsCheck, DriverChecked, rowCheck};
 
 pub fn type_at(types: &[u32], i: usize) -> Repeater
     requires { ⌜ (i < 4) × (3 * i + 3 ≤ length (now types)) ⌝ }
@@ -39,70 +45,81 @@ fn wire_at(rows: &[u32], i: usize) -> Wire
 }
 
 // A driver's line has a resistance and nothing else.
-fn driver_by(w: Wire, pin: u32, due: i64, place: u32) -> Line
-    ensures { λ r. ⌜ r ≡ lineFor place (rowBy 0 (w .parent) (w .resistance .0) (w .capacitance .0) (w .site) pin due) ⌝ }
+fn check_driver_words(n: Passed, w: Wire, pin: u32, due: i64) -> Checking
+    requires { ⌜ FewPassed n ⌝ }
+    ensures { λ r. ⌜ DriverChecked n w pin due r ⌝ }
 {
+    let place = place_of(n);
     if w.parent != 0 {
-        return Line::Refused(Refusal::Form(place));
+        return Checking::Refused(Refusal::Form(place));
     }
     let capacitance = w.capacitance.0;
     if capacitance != 0 {
-        return Line::Refused(Refusal::Form(place));
+        return Checking::Refused(Refusal::Form(place));
     }
     if w.site != 0 {
-        return Line::Refused(Refusal::Form(place));
+        return Checking::Refused(Refusal::Form(place));
     }
     if pin != 0 {
-        return Line::Refused(Refusal::Form(place));
+        return Checking::Refused(Refusal::Form(place));
     }
     if due != 0 {
-        return Line::Refused(Refusal::Form(place));
+        return Checking::Refused(Refusal::Form(place));
     }
     let resistance = w.resistance;
-    Line::Driver(resistance)
+    check_driver(n, resistance)
 }
 
 // A plain point's line has no pin and no required time.
-fn point_by(w: Wire, pin: u32, due: i64, place: u32) -> Line
-    ensures { λ r. ⌜ r ≡ lineFor place (rowBy 1 (w .parent) (w .resistance .0) (w .capacitance .0) (w .site) pin due) ⌝ }
+fn check_point_words(rows: &[u32], n: Passed, w: Wire, pin: u32, due: i64) -> Checking
+    requires { ⌜ FewPassed n × (6 * n .rows ≤ length (now rows)) ⌝ }
+    ensures { λ r. ⌜ r ≡ wordsCheck (now (rows .entry)) n 1 w pin due ⌝ }
 {
+    let place = place_of(n);
     if pin != 0 {
-        return Line::Refused(Refusal::Form(place));
+        return Checking::Refused(Refusal::Form(place));
     }
     if due != 0 {
-        return Line::Refused(Refusal::Form(place));
+        return Checking::Refused(Refusal::Form(place));
     }
-    Line::Point(w)
+    check_row(rows, n, w, wire_out(w))
 }
 
-fn line_by(kind: u32, w: Wire, pin: u32, due: i64, place: u32) -> Line
-    ensures { λ r. ⌜ r ≡ lineFor place (rowBy kind (w .parent) (w .resistance .0) (w .capacitance .0) (w .site) pin due) ⌝ }
+fn check_sink_words(rows: &[u32], n: Passed, w: Wire, pin: u32, due: i64) -> Checking
+    requires { ⌜ FewPassed n × (6 * n .rows ≤ length (now rows)) ⌝ }
+    ensures { λ r. ⌜ r ≡ wordsCheck (now (rows .entry)) n 2 w pin due ⌝ }
+{
+    let p = Pin {
+        load: Femtofarad(pin),
+        due: Femtosecond(due),
+    };
+    check_row(rows, n, w, sink_out(w, p))
+}
+
+// A row's words, checked as the line that they state would be; no line is made of them, for speed.
+fn check_words(rows: &[u32], n: Passed, kind: u32, w: Wire, pin: u32, due: i64) -> Checking
+    requires { ⌜ FewPassed n × (6 * n .rows ≤ length (now rows)) ⌝ }
+    ensures { λ r. ⌜ r ≡ wordsCheck (now (rows .entry)) n kind w pin due ⌝ }
 {
     if kind == 0 {
-        return driver_by(w, pin, due, place);
+        return check_driver_words(n, w, pin, due);
     }
     if kind == 1 {
-        return point_by(w, pin, due, place);
+        return check_point_words(rows, n, w, pin, due);
     }
     if kind == 2 {
-        return Line::Sink(
-            w,
-            Pin {
-                load: Femtofarad(pin),
-                due: Femtosecond(due),
-            },
-        );
+        return check_sink_words(rows, n, w, pin, due);
     }
-    Line::Refused(Refusal::Form(place))
+    Checking::Refused(Refusal::Form(place_of(n)))
 }
 
-// The line that row i of the tables would have as text.
-pub fn row_line(rows: &[u32], due: &[i64], i: usize, place: u32) -> Line
-    requires { ⌜ (i < 256) × ((6 * i + 6 ≤ length (now rows)) × (i < length (now due))) ⌝ }
-    ensures { λ r. ⌜ r ≡ lineFor place (rowEntryOf (now (rows .entry)) (now (due .entry)) i) ⌝ }
+// Row i of the tables, checked after those that have passed.
+pub fn check_row_at(rows: &[u32], due: &[i64], n: Passed, i: usize) -> Checking
+    requires { ⌜ (FewPassed n × (6 * n .rows ≤ length (now rows))) × ((i < 256) × ((6 * i + 6 ≤ length (now rows)) × (i < length (now due)))) ⌝ }
+    ensures { λ r. ⌜ r ≡ rowCheck (now (rows .entry)) (now (due .entry)) n i ⌝ }
 {
     let at = ROW_WORDS * i;
     let time = due[i];
     let wire = wire_at(rows, i);
-    line_by(rows[at], wire, rows[at + 5], time, place)
+    check_words(rows, n, rows[at], wire, rows[at + 5], time)
 }

@@ -21,6 +21,7 @@ mod below;
 mod checks;
 pub mod entries;
 mod lines;
+mod ranges;
 mod reads;
 mod tables;
 

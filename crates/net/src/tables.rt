@@ -1,15 +1,16 @@
 // A net given as tables, entry by entry.
 use super::Line;
 use super::Passed;
+use super::ROW_WORDS;
 use super::ROWS_ROOM;
 use super::TYPES_ROOM;
 use super::Taking;
 use super::areas::passed_with;
+use super::areas::with_row;
 use super::below::finish;
-use super::checks::check_line;
 use super::checks::check_type;
 use super::checks::place_of;
-use super::entries::row_line;
+use super::entries::check_row_at;
 use super::entries::type_at;
 use rules::Checking;
 use rules::Refusal;
@@ -69,11 +70,10 @@ pub fn take_rows(rows: &[u32], due: &[i64], n: Passed, count: usize) -> Taking
     let mut i = 0;
     let end = fewer(count, ROWS_ROOM);
     while i < end {
-        let line = row_line(rows, due, i, place_of(m));
-        match check_line(rows, m, line) {
+        match check_row_at(rows, due, m, i) {
             Checking::Refused(r) => return Taking::Refused(r),
             Checking::Accepted => {
-                m = passed_with(m, line);
+                m = with_row(m, rows[ROW_WORDS * i + 4]);
                 i += 1;
             }
         }

@@ -1,7 +1,7 @@
--- `net::checks::wire_out` meets its contract: the first field out of range decides. Assumes nothing.
+-- `net::ranges::wire_out` meets its contract: the first field out of range decides. Assumes nothing.
 use borrow.Author.Tests.{lt-ltb, le-ltb}
-use Rattle.net.proofs.checks.wire_out.Statement.{statement}
-use Rattle.net.proofs.checks.wire_out.Tie as tie
+use Rattle.net.proofs.ranges.wire_out.Statement.{statement}
+use Rattle.net.proofs.ranges.wire_out.Tie as tie
 
 returns : tie.Need-returns
 returns c = simp (lt-ltb _ _ (c .if1 .taken))

@@ -1,11 +1,11 @@
--- `net::checks::type_out` meets its contract: the first quantity out of range decides. Assumes nothing.
+-- `net::ranges::type_out` meets its contract: the first quantity out of range decides. Assumes nothing.
 use Prim.Native.Nat.{_<_, _^_}
 use native.Mathlib.Omega.{arith}
 use borrow.Author.Tests.{lt-ltb, le-ltb}
 use lib.Signed.{mag}
 use Rattle.text.specs.Numbers.{bits-back}
-use Rattle.net.proofs.checks.type_out.Statement.{statement}
-use Rattle.net.proofs.checks.type_out.Tie as tie
+use Rattle.net.proofs.ranges.type_out.Statement.{statement}
+use Rattle.net.proofs.ranges.type_out.Tie as tie
 
 returns : tie.Need-returns
 returns c = simp (lt-ltb _ _ (c .if1 .taken))

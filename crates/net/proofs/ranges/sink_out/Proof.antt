@@ -1,8 +1,8 @@
--- `net::checks::sink_out` meets its contract: the wire first, then the pin. Assumes nothing.
+-- `net::ranges::sink_out` meets its contract: the wire first, then the pin. Assumes nothing.
 use mathlib.Core.Path.{sym, _∙_}
 use borrow.Author.Needs.{needs}
-use Rattle.net.proofs.checks.sink_out.Statement.{statement}
-use Rattle.net.proofs.checks.sink_out.Tie as tie
+use Rattle.net.proofs.ranges.sink_out.Statement.{statement}
+use Rattle.net.proofs.ranges.sink_out.Tie as tie
 
 wire-out-requires : tie.Need-wire-out-requires
 wire-out-requires c κs = search needs

@@ -1,4 +1,4 @@
--- `net::checks::pin_out` meets its contract: the first quantity out of range decides. Assumes nothing.
+-- `net::ranges::pin_out` meets its contract: the first quantity out of range decides. Assumes nothing.
 use Prim.Native.Nat.{_<_, _^_}
 use mathlib.Core.Path.{_≡_}
 use mathlib.Core.Bool.{true, false}
@@ -7,8 +7,8 @@ use borrow.Author.Tests.{lt-ltb, le-ltb}
 use lib.Signed.{mag, ltZ}
 use Rattle.rules.specs.Quantities.{earliestDue}
 use Rattle.text.specs.Numbers.{bits-back}
-use Rattle.net.proofs.checks.pin_out.Statement.{statement}
-use Rattle.net.proofs.checks.pin_out.Tie as tie
+use Rattle.net.proofs.ranges.pin_out.Statement.{statement}
+use Rattle.net.proofs.ranges.pin_out.Tie as tie
 
 returns : tie.Need-returns
 returns c = simp (lt-ltb _ _ (c .if1 .taken))
