@@ -1,17 +1,17 @@
 // A net given as tables, entry by entry.
-use super::Line;
-use super::Passed;
-use super::ROW_WORDS;
-use super::ROWS_ROOM;
-use super::TYPES_ROOM;
 use super::Taking;
-use super::areas::passed_with;
-use super::areas::with_row;
 use super::below::finish;
-use super::checks::check_type;
-use super::checks::place_of;
-use super::entries::check_row_at;
-use super::entries::type_at;
+use entries::Line;
+use entries::Passed;
+use entries::ROW_WORDS;
+use entries::ROWS_ROOM;
+use entries::TYPES_ROOM;
+use entries::checks::check_type;
+use entries::checks::place_of;
+use entries::counts::passed_with;
+use entries::counts::with_row;
+use entries::words::check_row_at;
+use entries::words::type_at;
 use rules::Checking;
 use rules::Refusal;
 ghost use mathlib.Core.Path.{_≡_};
@@ -19,7 +19,7 @@ ghost use Prim.Native.Nat.{_≤_, min};
 ghost use lib.ListN.{length};
 ghost use Rattle.rules.specs.Tables.{tableEntries};
 ghost use Rattle.rules.specs.Refusals.{refusalOf};
-ghost use Rattle.net.specs.Checks.{FewPassed, checking};
+ghost use Rattle.entries.specs.Checks.{FewPassed, checking};
 ghost use Rattle.net.specs.Steps.{Rooms};
 ghost use Rattle.net.specs.TableSteps.{tablesOf, countsOf, FewTaken, TypesTaken, RowsTaken};
 

@@ -5,13 +5,13 @@ use mathlib.Core.List.{List}
 use native.Mathlib.Omega.{arith}
 use Rattle.rules.specs.Entries.{Entry}
 use Rattle.rules.specs.Tables.{from, rowEntry}
-use Rattle.net.specs.Lines.{lineFor}
-use Rattle.net.specs.Checks.{FewPassed, placeAt}
-use Rattle.net.specs.Entries.{rowEntryOf}
-use Rattle.net.specs.Held.{Holds}
+use Rattle.entries.specs.Lines.{lineFor}
+use Rattle.entries.specs.Checks.{FewPassed, placeAt}
+use Rattle.entries.specs.Entries.{rowEntryOf}
+use Rattle.entries.specs.Held.{Holds}
 use Rattle.net.specs.TableSteps.{tablesOf, Through}
 use Rattle.net.specs.Taking.{line-room}
-use Rattle.net.specs.RowLaws.{row-grown, row-entry-is, row-counted}
+use Rattle.entries.specs.RowLaws.{row-grown, row-entry-is, row-counted}
 use Rattle.net.specs.TableLaws.{through-none, take-refused-all, take-more, take-beyond-all, take-done}
 use borrow.Author.Needs.{needs}
 use Rattle.net.proofs.tables.take_rows.Statement.{statement}
