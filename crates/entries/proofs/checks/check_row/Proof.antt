@@ -16,7 +16,7 @@ first-of-requires : tie.Need-first-of-requires
 first-of-requires c κs = search needs
 
 returns : tie.Need-returns
-returns c = cc
+returns c = rw (c .before .before .before .many-rows .ensures, c .before .before .no-parent .ensures, c .before .place-of .ensures) at (c .first-of .ensures)
 
 pub check-row-spec : {M : Type 1} → statement M
 check-row-spec =
