@@ -11,12 +11,12 @@ use Rattle.rules.specs.declared.Row.{Row}
 use Rattle.rules.specs.Entries.{Entry}
 use Rattle.rules.specs.Refusals.{childless, lastRefusal}
 use Rattle.rules.specs.Promises.{rowTable, Settled}
-use Rattle.net.specs.declared.Passed.{Passed}
+use Rattle.entries.specs.declared.Passed.{Passed}
 use Rattle.net.specs.declared.below.Found.{Found}
 use Rattle.net.specs.declared.below.Found.the-variants.{At, Nothing}
 use Rattle.net.specs.declared.Taking.{Taking}
 use Rattle.net.specs.declared.Taking.the-variants.{Taken, Refused}
-use Rattle.net.specs.Held.{Holds}
+use Rattle.entries.specs.Held.{Holds}
 
 abbrev pub foundOf : Option ℕ → Found
 foundOf none = Nothing

@@ -19,11 +19,11 @@ use Rattle.rules.specs.Entries.{Entry, typesOf, rowsOf, rowOf}
 use Rattle.rules.specs.Refusals.{some?, isSink, under, childless, childlessAt, lineOfRow, lastRefusal}
 use Rattle.rules.specs.Promises.{rowTable, kindWord}
 use Rattle.text.specs.Stretches.{either, absurd}
-use Rattle.net.specs.declared.Passed.{Passed}
+use Rattle.entries.specs.declared.Passed.{Passed}
 use Rattle.net.specs.declared.below.Found.{Found}
 use Rattle.net.specs.declared.below.Found.the-variants.{At, Nothing}
-use Rattle.net.specs.Checks.{placeAt}
-use Rattle.net.specs.Held.{Holds}
+use Rattle.entries.specs.Checks.{placeAt}
+use Rattle.entries.specs.Held.{Holds}
 use Rattle.net.specs.Below.{foundOf, foundWith, markedWith, marksOf, FirstChildless, FoundIn}
 use Rattle.net.specs.Passing.{sink-word, word-behind}
 

@@ -14,8 +14,8 @@ use Rattle.rules.specs.Entries.{Entry, type, driver, point, sink, malformed, be
 use Rattle.rules.specs.Refusals.{some?, misplaced, outOfRange, tooMany, orphan, lineRefusal}
 use Rattle.text.specs.Stretches.{either, absurd}
 use Rattle.text.specs.Numbers.{cap, cappedTime}
-use Rattle.net.specs.Lines.{word, capped}
-use Rattle.net.specs.Checks.{firstOf}
+use Rattle.entries.specs.Lines.{word, capped}
+use Rattle.entries.specs.Checks.{firstOf}
 use Rattle.net.specs.Passing.{line-refusal-is}
 
 -- ---- tests

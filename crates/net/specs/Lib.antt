@@ -1,14 +1,7 @@
-pub mod Lines
-pub mod Checks
 pub mod LineLaws
-pub mod Entries
-pub mod Held
 pub mod Below
 pub mod Steps
 pub mod TableSteps
-pub mod Words
-pub mod EntryLaws
-pub mod HeldLaws
 pub mod Passing
 pub mod Cut
 pub mod HoldLaws
@@ -17,6 +10,4 @@ pub mod BelowLaws
 pub mod ReadLaws
 pub mod Filled
 pub mod TableLaws
-pub mod RowLaws
 pub mod CheckLaws
-pub mod Accepted

@@ -22,11 +22,11 @@ use Rattle.text.specs.declared.SignedField.the-variants.{Number as Time, Bad as
 use Rattle.text.specs.Stretches.{tab, absurd}
 use Rattle.text.specs.Numbers.{cap, cappedTime, fieldOf, timeOf, number-empty, signed-empty, mag-minus, bits-back}
 use Rattle.text.specs.Fields.{fieldAt, nextAt, fieldsFrom, NumberAt, TimeAt, field-read, fields-start, fields-some, fields-end, fields-over}
-use Rattle.net.specs.declared.Repeater.{Repeater}
-use Rattle.net.specs.declared.Wire.{Wire}
-use Rattle.net.specs.declared.Line.{Line}
-use Rattle.net.specs.declared.Line.the-variants.{Repeater as TypeLine, Driver as DriverLine, Point as PointLine, Sink as SinkLine, Refused as RefusedLine}
-use Rattle.net.specs.Lines.{word, repeaterOf, wireOf, pinOf, capped, lineFor, letterOf}
+use Rattle.entries.specs.declared.Repeater.{Repeater}
+use Rattle.entries.specs.declared.Wire.{Wire}
+use Rattle.entries.specs.declared.Line.{Line}
+use Rattle.entries.specs.declared.Line.the-variants.{Repeater as TypeLine, Driver as DriverLine, Point as PointLine, Sink as SinkLine, Refused as RefusedLine}
+use Rattle.entries.specs.Lines.{word, repeaterOf, wireOf, pinOf, capped, lineFor, letterOf}
 
 -- ---- one field
 -- a malformed field, or one that is missing

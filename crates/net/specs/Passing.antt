@@ -20,10 +20,10 @@ use Rattle.rules.specs.Entries.{Entry, type, driver, point, sink, malformed, be
 use Rattle.rules.specs.Refusals.{some?, isSink, misplaced, outOfRange, tooMany, orphan, noParent, lineRefusal, firstRefusal}
 use Rattle.rules.specs.Promises.{rowTable, kindWord}
 use Rattle.text.specs.Stretches.{either, absurd}
-use Rattle.net.specs.declared.Passed.{Passed}
-use Rattle.net.specs.Lines.{repeaterOf, wireOf, pinOf, lineFor}
-use Rattle.net.specs.Checks.{checking, firstOf, noParentIn, placeAt, checkOf}
-use Rattle.net.specs.Held.{Holds}
+use Rattle.entries.specs.declared.Passed.{Passed}
+use Rattle.entries.specs.Lines.{repeaterOf, wireOf, pinOf, lineFor}
+use Rattle.entries.specs.Checks.{checking, firstOf, noParentIn, placeAt, checkOf}
+use Rattle.entries.specs.Held.{Holds}
 
 -- ---- refused or accepted
 pub accepted-none : (o : Option Refusal) → checking o ≡ Accepted → o ≡ none

@@ -10,10 +10,10 @@ use Rattle.rules.specs.Entries.{Entry}
 use Rattle.rules.specs.Text.{parted, lineOf, linesOf, textEntries}
 use Rattle.rules.specs.Refusals.{lineRefusal, firstRefusal}
 use Rattle.text.specs.Stretches.{tab, lineFeed}
-use Rattle.net.specs.declared.Passed.{Passed}
+use Rattle.entries.specs.declared.Passed.{Passed}
 use Rattle.net.specs.declared.Taking.{Taking}
 use Rattle.net.specs.declared.Taking.the-variants.{Taken, Refused}
-use Rattle.net.specs.Held.{Holds}
+use Rattle.entries.specs.Held.{Holds}
 
 -- the areas have their room
 pub record Rooms (types rows : List ℕ) (due : List ℤ) : Type 0 where

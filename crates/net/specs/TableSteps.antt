@@ -8,11 +8,12 @@ use Rattle.rules.specs.Entries.{Entry}
 use Rattle.rules.specs.Tables.{Tables, typeEntry, rowEntry, counted}
 use Rattle.rules.specs.Refusals.{firstRefusal}
 pub use Rattle.laws.specs.Checked.{tablesOf, countsOf}
-use Rattle.net.specs.declared.Passed.{Passed}
+pub use Rattle.entries.specs.Checks.{checking}
+use Rattle.entries.specs.declared.Passed.{Passed}
 use Rattle.net.specs.declared.Taking.{Taking}
 use Rattle.net.specs.declared.Taking.the-variants.{Taken, Refused}
-use Rattle.net.specs.Checks.{FewPassed}
-use Rattle.net.specs.Held.{Holds}
+use Rattle.entries.specs.Checks.{FewPassed}
+use Rattle.entries.specs.Held.{Holds}
 use Rattle.net.specs.Steps.{AllBehind}
 
 -- the entries of the types, and of the rows

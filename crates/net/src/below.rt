@@ -1,15 +1,15 @@
 // After the last line: the driver is there, and each row that is no sink has a row below it.
-use super::Passed;
-use super::ROW_WORDS;
-use super::ROWS_ROOM;
 use super::Taking;
-use super::checks::place_of;
+use entries::Passed;
+use entries::ROW_WORDS;
+use entries::ROWS_ROOM;
+use entries::checks::place_of;
 use rules::Refusal;
 ghost use mathlib.Core.Path.{_≡_};
 ghost use Prim.Native.Nat.{_+_, _*_, _≤_, _<_};
 ghost use lib.ListN.{length, replicate};
 ghost use Rattle.net.specs.Below.{foundWith, markedWith, FirstChildless, FoundIn, Finished};
-ghost use Rattle.net.specs.Checks.{FewPassed};
+ghost use Rattle.entries.specs.Checks.{FewPassed};
 
 // A row number, or none.
 pub enum Found {

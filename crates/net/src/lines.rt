@@ -1,11 +1,10 @@
-// A reader for each kind of line. A number too large for any range is cut to one that is still out of range.
-use super::Line;
-use super::Repeater;
-use super::Wire;
-use rules::Femtofarad;
-use rules::Femtosecond;
+// A reader for each kind of line.
+use super::stated::pin_read;
+use super::stated::repeater_read;
+use super::stated::wire_read;
+use super::stated::word_of;
+use entries::Line;
 use rules::Ohm;
-use rules::Pin;
 use rules::Refusal;
 use text::Field;
 use text::SignedField;
@@ -17,60 +16,7 @@ ghost use Prim.Native.Nat.{_<_};
 ghost use Rattle.rules.specs.Text.{typeLine, driverLine, pointLine, sinkLine, lineOf, parted};
 ghost use Rattle.text.specs.Stretches.{tab};
 ghost use Rattle.text.specs.Fields.{fieldsFrom, fieldAt};
-ghost use Rattle.net.specs.Lines.{word, repeaterOf, wireOf, pinOf, capped, lineFor, letterOf};
-
-// Above the range of every word.
-const WORD_CAP: u64 = 2_000_000_000;
-
-fn word_of(n: u64) -> u32
-    ensures { λ r. ⌜ r ≡ word n ⌝ }
-{
-    if n < WORD_CAP {
-        return n as u32;
-    }
-    2_000_000_000
-}
-
-pub fn repeater(input: u32, resistance: u32, own: u32) -> Repeater
-    ensures { λ r. ⌜ r ≡ repeaterOf input resistance own ⌝ }
-{
-    Repeater {
-        input: Femtofarad(input),
-        resistance: Ohm(resistance),
-        own: Femtosecond(own as i64),
-    }
-}
-
-fn repeater_read(input: u64, resistance: u64, own: u64) -> Repeater
-    ensures { λ r. ⌜ r ≡ repeaterOf (word input) (word resistance) (word own) ⌝ }
-{
-    repeater(word_of(input), word_of(resistance), word_of(own))
-}
-
-fn wire_read(parent: u64, resistance: u64, capacitance: u64, site: u64) -> Wire
-    ensures { λ r. ⌜ r ≡ wireOf (word parent) (word resistance) (word capacitance) (word site) ⌝ }
-{
-    let above = word_of(parent);
-    let ohms = word_of(resistance);
-    let farads = word_of(capacitance);
-    let sites = word_of(site);
-    Wire {
-        parent: above,
-        resistance: Ohm(ohms),
-        capacitance: Femtofarad(farads),
-        site: sites,
-    }
-}
-
-fn pin_read(load: u64, due: i64) -> Pin
-    ensures { λ r. ⌜ r ≡ pinOf (word load) due ⌝ }
-{
-    let farads = word_of(load);
-    Pin {
-        load: Femtofarad(farads),
-        due: Femtosecond(due),
-    }
-}
+ghost use Rattle.entries.specs.Lines.{capped, lineFor, letterOf};
 
 fn type_line(line: &[u8], place: u32) -> Line
     ensures { λ r. ⌜ r ≡ lineFor place (capped (typeLine (fieldsFrom (now (line .entry)) 2))) ⌝ }

@@ -1,16 +1,17 @@
 // A net given as tables, entry by entry.
-use super::Line;
-use super::Passed;
-use super::ROWS_ROOM;
-use super::TYPES_ROOM;
 use super::Taking;
-use super::areas::passed_with;
 use super::below::finish;
-use super::checks::check_line;
-use super::checks::check_type;
-use super::checks::place_of;
-use super::entries::row_line;
-use super::entries::type_at;
+use entries::Line;
+use entries::Passed;
+use entries::ROW_WORDS;
+use entries::ROWS_ROOM;
+use entries::TYPES_ROOM;
+use entries::checks::check_type;
+use entries::checks::place_of;
+use entries::counts::passed_with;
+use entries::counts::with_row;
+use entries::words::check_row_at;
+use entries::words::type_at;
 use rules::Checking;
 use rules::Refusal;
 ghost use mathlib.Core.Path.{_≡_};
@@ -18,7 +19,7 @@ ghost use Prim.Native.Nat.{_≤_, min};
 ghost use lib.ListN.{length};
 ghost use Rattle.rules.specs.Tables.{tableEntries};
 ghost use Rattle.rules.specs.Refusals.{refusalOf};
-ghost use Rattle.net.specs.Checks.{FewPassed, checking};
+ghost use Rattle.entries.specs.Checks.{FewPassed, checking};
 ghost use Rattle.net.specs.Steps.{Rooms};
 ghost use Rattle.net.specs.TableSteps.{tablesOf, countsOf, FewTaken, TypesTaken, RowsTaken};
 
@@ -69,11 +70,10 @@ pub fn take_rows(rows: &[u32], due: &[i64], n: Passed, count: usize) -> Taking
     let mut i = 0;
     let end = fewer(count, ROWS_ROOM);
     while i < end {
-        let line = row_line(rows, due, i, place_of(m));
-        match check_line(rows, m, line) {
+        match check_row_at(rows, due, m, i) {
             Checking::Refused(r) => return Taking::Refused(r),
             Checking::Accepted => {
-                m = passed_with(m, line);
+                m = with_row(m, rows[ROW_WORDS * i + 4]);
                 i += 1;
             }
         }

@@ -244,8 +244,8 @@ fn list_in(
     ensures few { λ len. ⌜ len ≤ listRoom ⌝ }
 {
     let len = make(types, rows, due, count, n, loads, times, words, row);
-    net::areas::copy_words(loads, list_loads, len);
-    net::areas::copy_times(times, list_times, len);
+    entries::copies::copy_words(loads, list_loads, len);
+    entries::copies::copy_times(times, list_times, len);
     columns::areas::clear(loads, times, words, WORK_ROOM);
     len
 }

@@ -1,15 +1,15 @@
 // Each entry asked once, and its answer said.
+use crate::listing;
 use crate::planning;
-use crate::requests;
 use crate::saying;
-use crate::stamps;
-use crate::tables;
-use crate::words;
-use requests::Place;
+use cases::places;
+use cases::places::Place;
+use cases::stamps;
+use cases::sums;
+use cases::words::Word;
 use rules::Checking;
 use rules::Reading;
 use rules::Slacking;
-use words::Word;
 
 const PLACEMENT: usize = 6;
 
@@ -19,7 +19,7 @@ fn read_line(p: Place, answer: Reading, types: &[u32], rows: &[u32], due: &[i64]
         Reading::Refused(r) => {
             saying::refused(r);
             saying::kept(stamps::tables_kept(types, rows, due, 0, 0, 0));
-            requests::counted(p, 0, 0)
+            places::counted(p, 0, 0)
         }
         Reading::Read { types: t, rows: r } => {
             let dues = r as usize;
@@ -29,9 +29,9 @@ fn read_line(p: Place, answer: Reading, types: &[u32], rows: &[u32], due: &[i64]
             saying::number(t as u64);
             saying::number(r as u64);
             saying::say(b" sum");
-            saying::sum(tables::sum_of(types, rows, due, type_words, row_words, dues));
+            saying::sum(sums::sum_of(types, rows, due, type_words, row_words, dues));
             saying::kept(stamps::tables_kept(types, rows, due, type_words, row_words, dues));
-            requests::counted(p, t as usize, r as usize)
+            places::counted(p, t as usize, r as usize)
         }
     }
 }
@@ -122,7 +122,7 @@ fn of_parts(
         Word::Plan => planning::plan(types, rows, due, t, r, n, best),
         Word::Marks => marks(best),
         Word::Planned => slack_line(slack::slack_of(types, rows, due, t, r, best)),
-        Word::List => planning::list(types, rows, due, t, r, n),
+        Word::List => listing::list(types, rows, due, t, r, n),
         _ => saying::say(b" none"),
     }
 }

@@ -19,17 +19,13 @@
 // Before a call the areas that it may write are stamped. `kept` says that each word holds its stamp where the paper leaves it as
 // it was, `changed` that one does not; `cleared` that the room of the work area is all zero, `left` that it is not.
 mod asking;
-mod lines;
-mod numbers;
+mod listing;
 mod planning;
 mod requests;
 mod saying;
-mod stamps;
-mod tables;
-mod words;
+mod work;
 
-use requests::Place;
-use requests::Step;
+use cases::places::Step;
 
 const INPUT_ROOM: usize = 524_288;
 
@@ -42,10 +38,10 @@ fn run(
     due: &mut [i64],
     best: &mut [u64; 4],
 ) -> bool {
-    let mut p = requests::start();
+    let mut p = cases::places::start();
     let mut turns = INPUT_ROOM;
     while 0 < turns {
-        if requests::at_end(input, p) {
+        if cases::places::at_end(input, p) {
             return true;
         }
         match requests::next_request(input, p, text, types, rows, due, best) {

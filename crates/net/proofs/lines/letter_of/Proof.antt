@@ -1,6 +1,6 @@
 -- `net::lines::letter_of` meets its contract: a field of one byte is its letter. Assumes nothing.
 use mathlib.Core.Path.{ap, _∙_}
-use Rattle.net.specs.Lines.{letterOf, letter-single, letter-other}
+use Rattle.entries.specs.Lines.{letterOf, letter-single, letter-other}
 use borrow.Author.Needs.{needs}
 use Rattle.net.proofs.lines.letter_of.Statement.{statement}
 use Rattle.net.proofs.lines.letter_of.Tie as tie

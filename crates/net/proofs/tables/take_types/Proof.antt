@@ -5,12 +5,12 @@ use mathlib.Core.List.{List, []}
 use native.Mathlib.Omega.{arith}
 use lib.IntN.{ℤ}
 use Rattle.rules.specs.Tables.{from, typeEntry}
-use Rattle.net.specs.declared.Line.the-variants.{Repeater as TypeLine}
-use Rattle.net.specs.Checks.{FewPassed, placeAt}
+use Rattle.entries.specs.declared.Line.the-variants.{Repeater as TypeLine}
+use Rattle.entries.specs.Checks.{FewPassed, placeAt}
 use Rattle.net.specs.TableSteps.{tablesOf, Through}
 use Rattle.net.specs.Taking.{line-room}
 use Rattle.net.specs.ReadLaws.{holds-nothing}
-use Rattle.net.specs.RowLaws.{type-grown, type-line-is}
+use Rattle.entries.specs.RowLaws.{type-grown, type-line-is}
 use Rattle.net.specs.TableLaws.{through-none, take-refused, take-more, take-beyond, take-all}
 use borrow.Author.Needs.{needs}
 use Rattle.net.proofs.tables.take_types.Statement.{statement}

@@ -1,0 +1,8 @@
+pub mod Lines
+pub mod Checks
+pub mod Entries
+pub mod Held
+pub mod Words
+pub mod EntryLaws
+pub mod HeldLaws
+pub mod RowLaws
