@@ -198,7 +198,7 @@ pub fn seen(
 }
 
 // The list of what hangs under row p, made at a place where the list at p's last row below stands: that one behind its wire, then each row
-// before it under p, its own list behind what is made already.
+// before it under p, its own list behind what is made already. A sink's list is made here, so that only other rows recurse.
 pub fn below(
     rows: &[u32],
     due: &[i64],
@@ -227,19 +227,38 @@ pub fn below(
         if c == n {
             return m;
         }
-        let own = seen(
-            rows,
-            due,
-            types,
-            count,
-            links,
-            loads,
-            times,
-            words,
-            n,
-            c,
-            at + m,
-        );
-        m = hang(rows, due, loads, times, words, c, at, m, own);
+        let d = rows::backward::last_below(links, c);
+        if d == n {
+            start(rows, due, loads, times, words, c, at + m);
+            let own = put_site(
+                rows,
+                due,
+                types,
+                count,
+                links,
+                loads,
+                times,
+                words,
+                c,
+                at + m,
+                1,
+            );
+            m = hang(rows, due, loads, times, words, c, at, m, own);
+        } else {
+            let own = seen(
+                rows,
+                due,
+                types,
+                count,
+                links,
+                loads,
+                times,
+                words,
+                n,
+                c,
+                at + m,
+            );
+            m = hang(rows, due, loads, times, words, c, at, m, own);
+        }
     }
 }

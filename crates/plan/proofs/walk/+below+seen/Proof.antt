@@ -1,9 +1,10 @@
 -- `plan::walk::below` and `plan::walk::seen` meet their contracts. What falls is twice the rows left, and one for `seen`; in the loops the row
 -- falls. Assumes nothing.
-use mathlib.Core.Path.{refl, _∙_}
+use mathlib.Core.Path.{_≡_, refl, sym, _∙_}
 use Prim.Native.Nat.{ℕ, _+_, _*_, _-_, _<_}
 use native.Mathlib.Omega.{arith}
 use borrow.Author.Needs.{needs}
+use lib.ListN.{getD}
 use Rattle.rules.specs.Quantities.{workRoom}
 use Rattle.laws.specs.Walk.{seenAt}
 use Rattle.laws.specs.Tabled.{rowsFrom, repeatersFrom}
@@ -11,7 +12,7 @@ use Rattle.lists.specs.Made.{Room, room-run}
 use Rattle.lists.specs.Run.{run}
 use Rattle.plan.specs.Made.{Made, Driven, Kept}
 use Rattle.plan.specs.Steps.{room-kept}
-use Rattle.plan.specs.Spine.{Spine}
+use Rattle.plan.specs.Spine.{Spine, here}
 use Rattle.plan.specs.Upward.{Siblings, made-since, made-here, siblings-here, driven-here}
 use Rattle.plan.specs.Code.{typed, row-there, ohms-in, rising, way-inside, way-after, way-room, start-fits, started, driven-sited, site-made, above, under-made, wire-ready, wire-made, sibling-inside, siblings-made, sibling-more, sibling-earlier, sibling-after, sibling-room, sibling-hang, sibling-made}
 use borrow.Fn.Kinds.{In}
@@ -65,10 +66,14 @@ below-last-below-requires : (t : ℕ) → below-lts.Need-last-below-requires (
   wire-row-reads.Learnt,
   previous-beside-reads.Asked,
   previous-beside-reads.Learnt,
-  seen-below t,
-  seen.Post,
+  start-reads.Asked,
+  start-reads.Learnt,
+  put-site-reads.Asked,
+  put-site-reads.Learnt,
   hang-reads.Asked,
   hang-reads.Learnt,
+  seen-below t,
+  seen.Post,
 ) (below-at t) below.Post below-Inv-loop below-μ-loop
 below-last-below-requires t c κs =
     let p = c .before .before .before .before .before .pre .1 in
@@ -81,10 +86,14 @@ below-wire-row-requires : (t : ℕ) → below-lts.Need-wire-row-requires (
   wire-row-reads.Learnt,
   previous-beside-reads.Asked,
   previous-beside-reads.Learnt,
-  seen-below t,
-  seen.Post,
+  start-reads.Asked,
+  start-reads.Learnt,
+  put-site-reads.Asked,
+  put-site-reads.Learnt,
   hang-reads.Asked,
   hang-reads.Learnt,
+  seen-below t,
+  seen.Post,
 ) (below-at t) below.Post below-Inv-loop below-μ-loop
 below-wire-row-requires t c κs =
     let a = c .before .before .before .before .before .before .before .before .before .args in
@@ -102,10 +111,14 @@ below-loop-holds : (t : ℕ) → below-lts.Need-loop-holds (
   wire-row-reads.Learnt,
   previous-beside-reads.Asked,
   previous-beside-reads.Learnt,
-  seen-below t,
-  seen.Post,
+  start-reads.Asked,
+  start-reads.Learnt,
+  put-site-reads.Asked,
+  put-site-reads.Learnt,
   hang-reads.Asked,
   hang-reads.Learnt,
+  seen-below t,
+  seen.Post,
 ) (below-at t) below.Post below-Inv-loop below-μ-loop
 below-loop-holds t c =
     let a = c .before .before .before .before .before .before .before .before .before .before .before .before .before .before .before .args in
@@ -125,10 +138,14 @@ below-previous-beside-requires : (t : ℕ) → below-lts.Need-previous-beside-re
   wire-row-reads.Learnt,
   previous-beside-reads.Asked,
   previous-beside-reads.Learnt,
-  seen-below t,
-  seen.Post,
+  start-reads.Asked,
+  start-reads.Learnt,
+  put-site-reads.Asked,
+  put-site-reads.Learnt,
   hang-reads.Asked,
   hang-reads.Learnt,
+  seen-below t,
+  seen.Post,
 ) (below-at t) below.Post below-Inv-loop below-μ-loop
 below-previous-beside-requires t c κs =
     let a = c .before .before .before .before .before .before .before .before .before .before .before .before .before .before .before .before .args in
@@ -143,10 +160,14 @@ below-same-length : (t : ℕ) → below-lts.Need-same-length (
   wire-row-reads.Learnt,
   previous-beside-reads.Asked,
   previous-beside-reads.Learnt,
-  seen-below t,
-  seen.Post,
+  start-reads.Asked,
+  start-reads.Learnt,
+  put-site-reads.Asked,
+  put-site-reads.Learnt,
   hang-reads.Asked,
   hang-reads.Learnt,
+  seen-below t,
+  seen.Post,
 ) (below-at t) below.Post below-Inv-loop below-μ-loop
 below-same-length t c = c .before .before .loop .inv .1 .1 .loads ∙ c .before .before .before .before .before .before .before .loads .given
 
@@ -157,10 +178,14 @@ below-same-length-2 : (t : ℕ) → below-lts.Need-same-length-2 (
   wire-row-reads.Learnt,
   previous-beside-reads.Asked,
   previous-beside-reads.Learnt,
-  seen-below t,
-  seen.Post,
+  start-reads.Asked,
+  start-reads.Learnt,
+  put-site-reads.Asked,
+  put-site-reads.Learnt,
   hang-reads.Asked,
   hang-reads.Learnt,
+  seen-below t,
+  seen.Post,
 ) (below-at t) below.Post below-Inv-loop below-μ-loop
 below-same-length-2 t c = c .before .before .loop .inv .1 .1 .times ∙ c .before .before .before .before .before .times .given
 
@@ -171,10 +196,14 @@ below-same-length-3 : (t : ℕ) → below-lts.Need-same-length-3 (
   wire-row-reads.Learnt,
   previous-beside-reads.Asked,
   previous-beside-reads.Learnt,
-  seen-below t,
-  seen.Post,
+  start-reads.Asked,
+  start-reads.Learnt,
+  put-site-reads.Asked,
+  put-site-reads.Learnt,
   hang-reads.Asked,
   hang-reads.Learnt,
+  seen-below t,
+  seen.Post,
 ) (below-at t) below.Post below-Inv-loop below-μ-loop
 below-same-length-3 t c = c .before .before .loop .inv .1 .1 .words ∙ c .before .before .before .before .words .given
 
@@ -185,10 +214,14 @@ below-returns : (t : ℕ) → below-lts.Need-returns (
   wire-row-reads.Learnt,
   previous-beside-reads.Asked,
   previous-beside-reads.Learnt,
-  seen-below t,
-  seen.Post,
+  start-reads.Asked,
+  start-reads.Learnt,
+  put-site-reads.Asked,
+  put-site-reads.Learnt,
   hang-reads.Asked,
   hang-reads.Learnt,
+  seen-below t,
+  seen.Post,
 ) (below-at t) below.Post below-Inv-loop below-μ-loop
 below-returns t c =
     let a = c .before .before .before .before .before .before .before .before .before .before .before .before .before .before .before .before .before .before .args in
@@ -197,42 +230,124 @@ below-returns t c =
     let y = c .before .previous-beside in
     made-since (run (a .loads .now) (a .times .now) (a .words .now)) (c .before .before .before .before .before .before .before .before .wire-row .ensures .before) (siblings-made (a .rows .now) (a .due .now) (a .types .now) (a .count) (a .n) (a .links .now) (p .0) (a .p) (a .at) (p .1 .0 .0) (p .1 .1 .1 .0) (l .c) _ _ (l .m) (l .inv .1 .0) (y .result) (y .ensures) (c .if1 .taken))
 
-below-add-seen : (t : ℕ) → below-lts.Need-add-seen (
+below-last-below-requires-2 : (t : ℕ) → below-lts.Need-last-below-requires-2 (
   last-below-reads.Asked,
   last-below-reads.Learnt,
   wire-row-reads.Asked,
   wire-row-reads.Learnt,
   previous-beside-reads.Asked,
   previous-beside-reads.Learnt,
-  seen-below t,
-  seen.Post,
+  start-reads.Asked,
+  start-reads.Learnt,
+  put-site-reads.Asked,
+  put-site-reads.Learnt,
   hang-reads.Asked,
   hang-reads.Learnt,
+  seen-below t,
+  seen.Post,
 ) (below-at t) below.Post below-Inv-loop below-μ-loop
-below-add-seen t c = omega (arith, c .before .before .before .before .before .loop .inv .1 .0 .made .fits)
+below-last-below-requires-2 t c κs =
+    let a = c .before .before .before .before .before .before .before .before .before .before .before .before .before .before .before .before .before .before .args in
+    let p = c .before .before .before .before .before .before .before .before .before .before .before .before .before .before .before .before .before .before .pre .1 in
+    let l = c .before .before .loop in
+    let y = c .before .previous-beside in
+    let w = run (l .loads) (l .times) (l .words) in
+    (omega (arith, p .0 .standing .few, sibling-more (a .rows .now) (a .due .now) (a .types .now) (a .count) (a .n) (a .links .now) (p .0) (a .p) (a .at) (p .1 .0 .0) (p .1 .1 .1 .0) (l .c) _ w (l .m) (l .inv .1 .0) (y .result) (y .ensures) (c .if1 .left)), p .0 .linked .long)
 
-below-seen-requires : (t : ℕ) → below-lts.Need-seen-requires (
+below-add-start : (t : ℕ) → below-lts.Need-add-start (
   last-below-reads.Asked,
   last-below-reads.Learnt,
   wire-row-reads.Asked,
   wire-row-reads.Learnt,
   previous-beside-reads.Asked,
   previous-beside-reads.Learnt,
-  seen-below t,
-  seen.Post,
+  start-reads.Asked,
+  start-reads.Learnt,
+  put-site-reads.Asked,
+  put-site-reads.Learnt,
   hang-reads.Asked,
   hang-reads.Learnt,
+  seen-below t,
+  seen.Post,
 ) (below-at t) below.Post below-Inv-loop below-μ-loop
-below-seen-requires t c κs =
-    let a = c .before .before .before .before .before .before .before .before .before .before .before .before .before .before .before .before .before .before .before .before .before .args in
-    let p = c .before .before .before .before .before .before .before .before .before .before .before .before .before .before .before .before .before .before .before .before .before .pre .1 in
-    let l = c .before .before .before .before .before .loop in
-    let y = c .before .before .before .before .previous-beside in
+below-add-start t c = omega (arith, c .before .before .before .before .before .before .before .loop .inv .1 .0 .made .fits)
+
+below-start-requires : (t : ℕ) → below-lts.Need-start-requires (
+  last-below-reads.Asked,
+  last-below-reads.Learnt,
+  wire-row-reads.Asked,
+  wire-row-reads.Learnt,
+  previous-beside-reads.Asked,
+  previous-beside-reads.Learnt,
+  start-reads.Asked,
+  start-reads.Learnt,
+  put-site-reads.Asked,
+  put-site-reads.Learnt,
+  hang-reads.Asked,
+  hang-reads.Learnt,
+  seen-below t,
+  seen.Post,
+) (below-at t) below.Post below-Inv-loop below-μ-loop
+below-start-requires t c κs =
+    let a = c .before .before .before .before .before .before .before .before .before .before .before .before .before .before .before .before .before .before .before .before .before .before .before .args in
+    let p = c .before .before .before .before .before .before .before .before .before .before .before .before .before .before .before .before .before .before .before .before .before .before .before .pre .1 in
+    let l = c .before .before .before .before .before .before .before .loop in
+    let y = c .before .before .before .before .before .before .previous-beside in
     let w = run (l .loads) (l .times) (l .words) in
     let long = room-run workRoom (l .inv .0) (omega arith) in
-    let h = sibling-more (a .rows .now) (a .due .now) (a .types .now) (a .count) (a .n) (a .links .now) (p .0) (a .p) (a .at) (p .1 .0 .0) (p .1 .1 .1 .0) (l .c) _ w (l .m) (l .inv .1 .0) (y .result) (y .ensures) (c .before .before .before .if1 .left) in
-    let f = sibling-after (a .rows .now) (a .due .now) (a .types .now) (a .count) (a .n) (a .links .now) (p .0) (a .p) (a .at) (p .1 .0 .0) (p .1 .1 .1 .0) (l .c) _ w (l .m) (l .inv .1 .0) (y .result) (y .ensures) (c .before .before .before .if1 .left) long in
-    (omega (arith, h, f, c .before .before .before .before .before .before .before .before .before .before .before .before .before .before .before .before .before .before .before .before .before .pre .0), (p .0, (h, (l .inv .0, sibling-room (a .rows .now) (a .due .now) (a .types .now) (a .count) (a .n) (a .links .now) (p .0) (a .p) (a .at) (p .1 .0 .0) (p .1 .1 .1 .0) (l .c) _ w (l .m) (l .inv .1 .0) (y .result) (y .ensures) (c .before .before .before .if1 .left) long))))
+    let h = sibling-more (a .rows .now) (a .due .now) (a .types .now) (a .count) (a .n) (a .links .now) (p .0) (a .p) (a .at) (p .1 .0 .0) (p .1 .1 .1 .0) (l .c) _ w (l .m) (l .inv .1 .0) (y .result) (y .ensures) (c .before .before .before .before .before .if1 .left) in
+    let g = sibling-room (a .rows .now) (a .due .now) (a .types .now) (a .count) (a .n) (a .links .now) (p .0) (a .p) (a .at) (p .1 .0 .0) (p .1 .1 .1 .0) (l .c) _ w (l .m) (l .inv .1 .0) (y .result) (y .ensures) (c .before .before .before .before .before .if1 .left) long in
+    (row-there (a .rows .now) (a .due .now) (a .types .now) (a .count) (a .n) (a .links .now) (p .0) (y .result) h, (l .inv .0, start-fits (a .rows .now) (a .due .now) (a .types .now) (a .count) (a .n) (a .links .now) (p .0) (y .result) (a .at + l .m) h g (y .result) (here refl)))
+
+below-add-put-site : (t : ℕ) → below-lts.Need-add-put-site (
+  last-below-reads.Asked,
+  last-below-reads.Learnt,
+  wire-row-reads.Asked,
+  wire-row-reads.Learnt,
+  previous-beside-reads.Asked,
+  previous-beside-reads.Learnt,
+  start-reads.Asked,
+  start-reads.Learnt,
+  put-site-reads.Asked,
+  put-site-reads.Learnt,
+  hang-reads.Asked,
+  hang-reads.Learnt,
+  seen-below t,
+  seen.Post,
+) (below-at t) below.Post below-Inv-loop below-μ-loop
+below-add-put-site t c = omega (arith, c .before .before .before .before .before .before .before .before .before .before .before .before .before .before .before .before .loop .inv .1 .0 .made .fits)
+
+below-put-site-requires : (t : ℕ) → below-lts.Need-put-site-requires (
+  last-below-reads.Asked,
+  last-below-reads.Learnt,
+  wire-row-reads.Asked,
+  wire-row-reads.Learnt,
+  previous-beside-reads.Asked,
+  previous-beside-reads.Learnt,
+  start-reads.Asked,
+  start-reads.Learnt,
+  put-site-reads.Asked,
+  put-site-reads.Learnt,
+  hang-reads.Asked,
+  hang-reads.Learnt,
+  seen-below t,
+  seen.Post,
+) (below-at t) below.Post below-Inv-loop below-μ-loop
+below-put-site-requires t c κs =
+    let a = c .before .before .before .before .before .before .before .before .before .before .before .before .before .before .before .before .before .before .before .before .before .before .before .before .before .before .before .before .before .before .before .before .args in
+    let p = c .before .before .before .before .before .before .before .before .before .before .before .before .before .before .before .before .before .before .before .before .before .before .before .before .before .before .before .before .before .before .before .before .pre .1 in
+    let l = c .before .before .before .before .before .before .before .before .before .before .before .before .before .before .before .before .loop in
+    let y = c .before .before .before .before .before .before .before .before .before .before .before .before .before .before .before .previous-beside in
+    let w = run (l .loads) (l .times) (l .words) in
+    let long = room-run workRoom (l .inv .0) (omega arith) in
+    let h = sibling-more (a .rows .now) (a .due .now) (a .types .now) (a .count) (a .n) (a .links .now) (p .0) (a .p) (a .at) (p .1 .0 .0) (p .1 .1 .1 .0) (l .c) _ w (l .m) (l .inv .1 .0) (y .result) (y .ensures) (c .before .before .before .before .before .before .before .before .before .before .before .before .before .before .if1 .left) in
+    let g = sibling-room (a .rows .now) (a .due .now) (a .types .now) (a .count) (a .n) (a .links .now) (p .0) (a .p) (a .at) (p .1 .0 .0) (p .1 .1 .1 .0) (l .c) _ w (l .m) (l .inv .1 .0) (y .result) (y .ensures) (c .before .before .before .before .before .before .before .before .before .before .before .before .before .before .if1 .left) long in
+    let e : getD (a .links .now) (y .result) 0 ≡ a .n = sym (c .before .before .before .before .before .before .before .before .before .before .before .before .before .last-below2 .ensures) ∙ c .before .before .before .before .before .before .before .before .before .before .before .before .if2 .taken in
+    let u = c .before .before .before .before .before .before .before .before .start in
+    let w₁ = run (u .last .1 .1 .0) (u .last .1 .1 .1 .0) (u .last .1 .1 .1 .1 .0) in
+    let r₁ : Room (u .last .1 .1 .0) (u .last .1 .1 .1 .0) (u .last .1 .1 .1 .1 .0) = room-kept _ _ _ (l .inv .0) (c .before .before .before .before .before .before .before .loads2 .given) (c .before .before .before .before .before .times2 .given) (c .before .before .before .before .words2 .given) in
+    let d = started (a .rows .now) (a .due .now) (a .types .now) (a .count) (a .n) (a .links .now) (p .0) (y .result) (a .at + l .m) h g (y .result) (here refl) w w₁ long e (u .ensures) in
+    (row-there (a .rows .now) (a .due .now) (a .types .now) (a .count) (a .n) (a .links .now) (p .0) (y .result) h, (typed (a .rows .now) (a .due .now) (a .types .now) (a .count) (a .n) (a .links .now) (p .0), (p .0 .linked .long, (r₁, driven-sited (a .rows .now) (a .due .now) (a .types .now) (a .count) (a .n) (a .links .now) (p .0) (y .result) (a .at + l .m) h g (y .result) (here refl) w w₁ 1 d))))
 
 below-hang-requires : (t : ℕ) → below-lts.Need-hang-requires (
   last-below-reads.Asked,
@@ -241,22 +356,34 @@ below-hang-requires : (t : ℕ) → below-lts.Need-hang-requires (
   wire-row-reads.Learnt,
   previous-beside-reads.Asked,
   previous-beside-reads.Learnt,
-  seen-below t,
-  seen.Post,
+  start-reads.Asked,
+  start-reads.Learnt,
+  put-site-reads.Asked,
+  put-site-reads.Learnt,
   hang-reads.Asked,
   hang-reads.Learnt,
+  seen-below t,
+  seen.Post,
 ) (below-at t) below.Post below-Inv-loop below-μ-loop
 below-hang-requires t c κs =
-    let a = c .before .before .before .before .before .before .before .before .before .before .before .before .before .before .before .before .before .before .before .before .before .before .before .before .before .before .before .before .before .before .args in
-    let p = c .before .before .before .before .before .before .before .before .before .before .before .before .before .before .before .before .before .before .before .before .before .before .before .before .before .before .before .before .before .before .pre .1 in
-    let l = c .before .before .before .before .before .before .before .before .before .before .before .before .before .before .loop in
-    let y = c .before .before .before .before .before .before .before .before .before .before .before .before .before .previous-beside in
-    let o = c .before .before .before .before .before .before .before .before .seen in
+    let a = c .before .before .before .before .before .before .before .before .before .before .before .before .before .before .before .before .before .before .before .before .before .before .before .before .before .before .before .before .before .before .before .before .before .before .before .before .before .before .before .before .before .args in
+    let p = c .before .before .before .before .before .before .before .before .before .before .before .before .before .before .before .before .before .before .before .before .before .before .before .before .before .before .before .before .before .before .before .before .before .before .before .before .before .before .before .before .before .pre .1 in
+    let l = c .before .before .before .before .before .before .before .before .before .before .before .before .before .before .before .before .before .before .before .before .before .before .before .before .before .loop in
+    let y = c .before .before .before .before .before .before .before .before .before .before .before .before .before .before .before .before .before .before .before .before .before .before .before .before .previous-beside in
     let w = run (l .loads) (l .times) (l .words) in
     let long = room-run workRoom (l .inv .0) (omega arith) in
-    let h = sibling-more (a .rows .now) (a .due .now) (a .types .now) (a .count) (a .n) (a .links .now) (p .0) (a .p) (a .at) (p .1 .0 .0) (p .1 .1 .1 .0) (l .c) _ w (l .m) (l .inv .1 .0) (y .result) (y .ensures) (c .before .before .before .before .before .before .before .before .before .before .before .before .if1 .left) in
-    let r₂ : Room (o .last .1 .1 .1 .1 .1 .0) (o .last .1 .1 .1 .1 .1 .1 .0) (o .last .1 .1 .1 .1 .1 .1 .1 .0) = room-kept _ _ _ (l .inv .0) (c .before .before .before .before .before .before .before .loads2 .given) (c .before .before .before .before .before .times2 .given) (c .before .before .before .before .words2 .given) in
-    (row-there (a .rows .now) (a .due .now) (a .types .now) (a .count) (a .n) (a .links .now) (p .0) (y .result) h, (r₂, (ohms-in (a .rows .now) (a .due .now) (a .types .now) (a .count) (a .n) (a .links .now) (p .0) (y .result) h, sibling-hang (a .rows .now) (a .due .now) (a .types .now) (a .count) (a .n) (a .links .now) (p .0) (a .p) (a .at) (p .1 .0 .0) (p .1 .1 .1 .0) (l .c) _ w (l .m) (l .inv .1 .0) (y .result) (y .ensures) (c .before .before .before .before .before .before .before .before .before .before .before .before .if1 .left) long (run (o .last .1 .1 .1 .1 .1 .0) (o .last .1 .1 .1 .1 .1 .1 .0) (o .last .1 .1 .1 .1 .1 .1 .1 .0)) (room-run workRoom r₂ (omega arith)) (o .result) (o .ensures))))
+    let h = sibling-more (a .rows .now) (a .due .now) (a .types .now) (a .count) (a .n) (a .links .now) (p .0) (a .p) (a .at) (p .1 .0 .0) (p .1 .1 .1 .0) (l .c) _ w (l .m) (l .inv .1 .0) (y .result) (y .ensures) (c .before .before .before .before .before .before .before .before .before .before .before .before .before .before .before .before .before .before .before .before .before .before .before .if1 .left) in
+    let g = sibling-room (a .rows .now) (a .due .now) (a .types .now) (a .count) (a .n) (a .links .now) (p .0) (a .p) (a .at) (p .1 .0 .0) (p .1 .1 .1 .0) (l .c) _ w (l .m) (l .inv .1 .0) (y .result) (y .ensures) (c .before .before .before .before .before .before .before .before .before .before .before .before .before .before .before .before .before .before .before .before .before .before .before .if1 .left) long in
+    let e : getD (a .links .now) (y .result) 0 ≡ a .n = sym (c .before .before .before .before .before .before .before .before .before .before .before .before .before .before .before .before .before .before .before .before .before .before .last-below2 .ensures) ∙ c .before .before .before .before .before .before .before .before .before .before .before .before .before .before .before .before .before .before .before .before .before .if2 .taken in
+    let u = c .before .before .before .before .before .before .before .before .before .before .before .before .before .before .before .before .before .start in
+    let w₁ = run (u .last .1 .1 .0) (u .last .1 .1 .1 .0) (u .last .1 .1 .1 .1 .0) in
+    let r₁ : Room (u .last .1 .1 .0) (u .last .1 .1 .1 .0) (u .last .1 .1 .1 .1 .0) = room-kept _ _ _ (l .inv .0) (c .before .before .before .before .before .before .before .before .before .before .before .before .before .before .before .before .loads2 .given) (c .before .before .before .before .before .before .before .before .before .before .before .before .before .before .times2 .given) (c .before .before .before .before .before .before .before .before .before .before .before .before .before .words2 .given) in
+    let d = started (a .rows .now) (a .due .now) (a .types .now) (a .count) (a .n) (a .links .now) (p .0) (y .result) (a .at + l .m) h g (y .result) (here refl) w w₁ long e (u .ensures) in
+    let v = c .before .before .before .before .before .before .before .before .put-site in
+    let w₂ = run (v .last .1 .1 .1 .1 .1 .0) (v .last .1 .1 .1 .1 .1 .1 .0) (v .last .1 .1 .1 .1 .1 .1 .1 .0) in
+    let r₂ : Room (v .last .1 .1 .1 .1 .1 .0) (v .last .1 .1 .1 .1 .1 .1 .0) (v .last .1 .1 .1 .1 .1 .1 .1 .0) = room-kept _ _ _ r₁ (c .before .before .before .before .before .before .before .loads3 .given) (c .before .before .before .before .before .times3 .given) (c .before .before .before .before .words3 .given) in
+    let o = site-made (a .rows .now) (a .due .now) (a .types .now) (a .count) (a .n) (a .links .now) (p .0) (y .result) (a .at + l .m) h g (y .result) (here refl) w w₁ 1 d w₂ (v .result) (v .ensures) in
+    (row-there (a .rows .now) (a .due .now) (a .types .now) (a .count) (a .n) (a .links .now) (p .0) (y .result) h, (r₂, (ohms-in (a .rows .now) (a .due .now) (a .types .now) (a .count) (a .n) (a .links .now) (p .0) (y .result) h, sibling-hang (a .rows .now) (a .due .now) (a .types .now) (a .count) (a .n) (a .links .now) (p .0) (a .p) (a .at) (p .1 .0 .0) (p .1 .1 .1 .0) (l .c) _ w (l .m) (l .inv .1 .0) (y .result) (y .ensures) (c .before .before .before .before .before .before .before .before .before .before .before .before .before .before .before .before .before .before .before .before .before .before .before .if1 .left) long w₂ (room-run workRoom r₂ (omega arith)) (v .result) o)))
 
 below-loop-less : (t : ℕ) → below-lts.Need-loop-less (
   last-below-reads.Asked,
@@ -265,17 +392,21 @@ below-loop-less : (t : ℕ) → below-lts.Need-loop-less (
   wire-row-reads.Learnt,
   previous-beside-reads.Asked,
   previous-beside-reads.Learnt,
-  seen-below t,
-  seen.Post,
+  start-reads.Asked,
+  start-reads.Learnt,
+  put-site-reads.Asked,
+  put-site-reads.Learnt,
   hang-reads.Asked,
   hang-reads.Learnt,
+  seen-below t,
+  seen.Post,
 ) (below-at t) below.Post below-Inv-loop below-μ-loop
 below-loop-less t c =
-    let a = c .before .before .before .before .before .before .before .before .before .before .before .before .before .before .before .before .before .before .before .before .before .before .before .before .before .before .before .before .before .before .before .before .before .before .before .before .args in
-    let p = c .before .before .before .before .before .before .before .before .before .before .before .before .before .before .before .before .before .before .before .before .before .before .before .before .before .before .before .before .before .before .before .before .before .before .before .before .pre .1 in
-    let l = c .before .before .before .before .before .before .before .before .before .before .before .before .before .before .before .before .before .before .before .before .loop in
-    let y = c .before .before .before .before .before .before .before .before .before .before .before .before .before .before .before .before .before .before .before .previous-beside in
-    sibling-earlier (a .rows .now) (a .due .now) (a .types .now) (a .count) (a .n) (a .links .now) (p .0) (a .p) (a .at) (p .1 .0 .0) (p .1 .1 .1 .0) (l .c) _ (run (l .loads) (l .times) (l .words)) (l .m) (l .inv .1 .0) (y .result) (y .ensures) (c .before .before .before .before .before .before .before .before .before .before .before .before .before .before .before .before .before .before .if1 .left)
+    let a = c .before .before .before .before .before .before .before .before .before .before .before .before .before .before .before .before .before .before .before .before .before .before .before .before .before .before .before .before .before .before .before .before .before .before .before .before .before .before .before .before .before .before .before .before .before .before .before .args in
+    let p = c .before .before .before .before .before .before .before .before .before .before .before .before .before .before .before .before .before .before .before .before .before .before .before .before .before .before .before .before .before .before .before .before .before .before .before .before .before .before .before .before .before .before .before .before .before .before .before .pre .1 in
+    let l = c .before .before .before .before .before .before .before .before .before .before .before .before .before .before .before .before .before .before .before .before .before .before .before .before .before .before .before .before .before .before .before .loop in
+    let y = c .before .before .before .before .before .before .before .before .before .before .before .before .before .before .before .before .before .before .before .before .before .before .before .before .before .before .before .before .before .before .previous-beside in
+    sibling-earlier (a .rows .now) (a .due .now) (a .types .now) (a .count) (a .n) (a .links .now) (p .0) (a .p) (a .at) (p .1 .0 .0) (p .1 .1 .1 .0) (l .c) _ (run (l .loads) (l .times) (l .words)) (l .m) (l .inv .1 .0) (y .result) (y .ensures) (c .before .before .before .before .before .before .before .before .before .before .before .before .before .before .before .before .before .before .before .before .before .before .before .before .before .before .before .before .before .if1 .left)
 
 below-loop-again : (t : ℕ) → below-lts.Need-loop-again (
   last-below-reads.Asked,
@@ -284,24 +415,163 @@ below-loop-again : (t : ℕ) → below-lts.Need-loop-again (
   wire-row-reads.Learnt,
   previous-beside-reads.Asked,
   previous-beside-reads.Learnt,
-  seen-below t,
-  seen.Post,
+  start-reads.Asked,
+  start-reads.Learnt,
+  put-site-reads.Asked,
+  put-site-reads.Learnt,
   hang-reads.Asked,
   hang-reads.Learnt,
+  seen-below t,
+  seen.Post,
 ) (below-at t) below.Post below-Inv-loop below-μ-loop
 below-loop-again t c =
-    let a = c .before .before .before .before .before .before .before .before .before .before .before .before .before .before .before .before .before .before .before .before .before .before .before .before .before .before .before .before .before .before .before .before .before .before .before .before .args in
-    let p = c .before .before .before .before .before .before .before .before .before .before .before .before .before .before .before .before .before .before .before .before .before .before .before .before .before .before .before .before .before .before .before .before .before .before .before .before .pre .1 in
-    let l = c .before .before .before .before .before .before .before .before .before .before .before .before .before .before .before .before .before .before .before .before .loop in
-    let y = c .before .before .before .before .before .before .before .before .before .before .before .before .before .before .before .before .before .before .before .previous-beside in
-    let o = c .before .before .before .before .before .before .before .before .before .before .before .before .before .before .seen in
-    let u = c .before .before .before .before .before .hang in
+    let a = c .before .before .before .before .before .before .before .before .before .before .before .before .before .before .before .before .before .before .before .before .before .before .before .before .before .before .before .before .before .before .before .before .before .before .before .before .before .before .before .before .before .before .before .before .before .before .before .args in
+    let p = c .before .before .before .before .before .before .before .before .before .before .before .before .before .before .before .before .before .before .before .before .before .before .before .before .before .before .before .before .before .before .before .before .before .before .before .before .before .before .before .before .before .before .before .before .before .before .before .pre .1 in
+    let l = c .before .before .before .before .before .before .before .before .before .before .before .before .before .before .before .before .before .before .before .before .before .before .before .before .before .before .before .before .before .before .before .loop in
+    let y = c .before .before .before .before .before .before .before .before .before .before .before .before .before .before .before .before .before .before .before .before .before .before .before .before .before .before .before .before .before .before .previous-beside in
     let w = run (l .loads) (l .times) (l .words) in
     let long = room-run workRoom (l .inv .0) (omega arith) in
-    let r₂ : Room (o .last .1 .1 .1 .1 .1 .0) (o .last .1 .1 .1 .1 .1 .1 .0) (o .last .1 .1 .1 .1 .1 .1 .1 .0) = room-kept _ _ _ (l .inv .0) (c .before .before .before .before .before .before .before .before .before .before .before .before .before .loads2 .given) (c .before .before .before .before .before .before .before .before .before .before .before .times2 .given) (c .before .before .before .before .before .before .before .before .before .before .words2 .given) in
-    let s = sibling-made (a .rows .now) (a .due .now) (a .types .now) (a .count) (a .n) (a .links .now) (p .0) (a .p) (a .at) (p .1 .0 .0) (p .1 .1 .1 .0) (l .c) _ w (l .m) (l .inv .1 .0) (y .result) (y .ensures) (c .before .before .before .before .before .before .before .before .before .before .before .before .before .before .before .before .before .before .if1 .left) long (run (o .last .1 .1 .1 .1 .1 .0) (o .last .1 .1 .1 .1 .1 .1 .0) (o .last .1 .1 .1 .1 .1 .1 .1 .0)) (room-run workRoom r₂ (omega arith)) (o .result) (o .ensures) (run (u .last .1 .1 .0) (u .last .1 .1 .1 .0) (u .last .1 .1 .1 .1 .0)) (u .result) (u .ensures) in
+    let h = sibling-more (a .rows .now) (a .due .now) (a .types .now) (a .count) (a .n) (a .links .now) (p .0) (a .p) (a .at) (p .1 .0 .0) (p .1 .1 .1 .0) (l .c) _ w (l .m) (l .inv .1 .0) (y .result) (y .ensures) (c .before .before .before .before .before .before .before .before .before .before .before .before .before .before .before .before .before .before .before .before .before .before .before .before .before .before .before .before .before .if1 .left) in
+    let g = sibling-room (a .rows .now) (a .due .now) (a .types .now) (a .count) (a .n) (a .links .now) (p .0) (a .p) (a .at) (p .1 .0 .0) (p .1 .1 .1 .0) (l .c) _ w (l .m) (l .inv .1 .0) (y .result) (y .ensures) (c .before .before .before .before .before .before .before .before .before .before .before .before .before .before .before .before .before .before .before .before .before .before .before .before .before .before .before .before .before .if1 .left) long in
+    let e : getD (a .links .now) (y .result) 0 ≡ a .n = sym (c .before .before .before .before .before .before .before .before .before .before .before .before .before .before .before .before .before .before .before .before .before .before .before .before .before .before .before .before .last-below2 .ensures) ∙ c .before .before .before .before .before .before .before .before .before .before .before .before .before .before .before .before .before .before .before .before .before .before .before .before .before .before .before .if2 .taken in
+    let u = c .before .before .before .before .before .before .before .before .before .before .before .before .before .before .before .before .before .before .before .before .before .before .before .start in
+    let w₁ = run (u .last .1 .1 .0) (u .last .1 .1 .1 .0) (u .last .1 .1 .1 .1 .0) in
+    let r₁ : Room (u .last .1 .1 .0) (u .last .1 .1 .1 .0) (u .last .1 .1 .1 .1 .0) = room-kept _ _ _ (l .inv .0) (c .before .before .before .before .before .before .before .before .before .before .before .before .before .before .before .before .before .before .before .before .before .before .loads2 .given) (c .before .before .before .before .before .before .before .before .before .before .before .before .before .before .before .before .before .before .before .before .times2 .given) (c .before .before .before .before .before .before .before .before .before .before .before .before .before .before .before .before .before .before .before .words2 .given) in
+    let d = started (a .rows .now) (a .due .now) (a .types .now) (a .count) (a .n) (a .links .now) (p .0) (y .result) (a .at + l .m) h g (y .result) (here refl) w w₁ long e (u .ensures) in
+    let v = c .before .before .before .before .before .before .before .before .before .before .before .before .before .before .put-site in
+    let w₂ = run (v .last .1 .1 .1 .1 .1 .0) (v .last .1 .1 .1 .1 .1 .1 .0) (v .last .1 .1 .1 .1 .1 .1 .1 .0) in
+    let r₂ : Room (v .last .1 .1 .1 .1 .1 .0) (v .last .1 .1 .1 .1 .1 .1 .0) (v .last .1 .1 .1 .1 .1 .1 .1 .0) = room-kept _ _ _ r₁ (c .before .before .before .before .before .before .before .before .before .before .before .before .before .loads3 .given) (c .before .before .before .before .before .before .before .before .before .before .before .times3 .given) (c .before .before .before .before .before .before .before .before .before .before .words3 .given) in
+    let o = site-made (a .rows .now) (a .due .now) (a .types .now) (a .count) (a .n) (a .links .now) (p .0) (y .result) (a .at + l .m) h g (y .result) (here refl) w w₁ 1 d w₂ (v .result) (v .ensures) in
+    let x = c .before .before .before .before .before .hang in
+    let s = sibling-made (a .rows .now) (a .due .now) (a .types .now) (a .count) (a .n) (a .links .now) (p .0) (a .p) (a .at) (p .1 .0 .0) (p .1 .1 .1 .0) (l .c) _ w (l .m) (l .inv .1 .0) (y .result) (y .ensures) (c .before .before .before .before .before .before .before .before .before .before .before .before .before .before .before .before .before .before .before .before .before .before .before .before .before .before .before .before .before .if1 .left) long w₂ (room-run workRoom r₂ (omega arith)) (v .result) o (run (x .last .1 .1 .0) (x .last .1 .1 .1 .0) (x .last .1 .1 .1 .1 .0)) (x .result) (x .ensures) in
     let k = l .inv .1 .1 in
-    (room-kept _ _ _ r₂ (c .before .before .before .before .loads3 .given) (c .before .before .times3 .given) (c .before .words3 .given), (s, record { loads = c .before .before .before .before .loads3 .given ∙ c .before .before .before .before .before .before .before .before .before .before .before .before .before .loads2 .given ∙ k .loads; times = c .before .before .times3 .given ∙ c .before .before .before .before .before .before .before .before .before .before .before .times2 .given ∙ k .times; words = c .before .words3 .given ∙ c .before .before .before .before .before .before .before .before .before .before .words2 .given ∙ k .words }))
+    (room-kept _ _ _ r₂ (c .before .before .before .before .loads4 .given) (c .before .before .times4 .given) (c .before .words4 .given), (s, record { loads = c .before .before .before .before .loads4 .given ∙ c .before .before .before .before .before .before .before .before .before .before .before .before .before .loads3 .given ∙ c .before .before .before .before .before .before .before .before .before .before .before .before .before .before .before .before .before .before .before .before .before .before .loads2 .given ∙ k .loads; times = c .before .before .times4 .given ∙ c .before .before .before .before .before .before .before .before .before .before .before .times3 .given ∙ c .before .before .before .before .before .before .before .before .before .before .before .before .before .before .before .before .before .before .before .before .times2 .given ∙ k .times; words = c .before .words4 .given ∙ c .before .before .before .before .before .before .before .before .before .before .words3 .given ∙ c .before .before .before .before .before .before .before .before .before .before .before .before .before .before .before .before .before .before .before .words2 .given ∙ k .words }))
+
+below-add-seen : (t : ℕ) → below-lts.Need-add-seen (
+  last-below-reads.Asked,
+  last-below-reads.Learnt,
+  wire-row-reads.Asked,
+  wire-row-reads.Learnt,
+  previous-beside-reads.Asked,
+  previous-beside-reads.Learnt,
+  start-reads.Asked,
+  start-reads.Learnt,
+  put-site-reads.Asked,
+  put-site-reads.Learnt,
+  hang-reads.Asked,
+  hang-reads.Learnt,
+  seen-below t,
+  seen.Post,
+) (below-at t) below.Post below-Inv-loop below-μ-loop
+below-add-seen t c = omega (arith, c .before .before .before .before .before .before .before .loop .inv .1 .0 .made .fits)
+
+below-seen-requires : (t : ℕ) → below-lts.Need-seen-requires (
+  last-below-reads.Asked,
+  last-below-reads.Learnt,
+  wire-row-reads.Asked,
+  wire-row-reads.Learnt,
+  previous-beside-reads.Asked,
+  previous-beside-reads.Learnt,
+  start-reads.Asked,
+  start-reads.Learnt,
+  put-site-reads.Asked,
+  put-site-reads.Learnt,
+  hang-reads.Asked,
+  hang-reads.Learnt,
+  seen-below t,
+  seen.Post,
+) (below-at t) below.Post below-Inv-loop below-μ-loop
+below-seen-requires t c κs =
+    let a = c .before .before .before .before .before .before .before .before .before .before .before .before .before .before .before .before .before .before .before .before .before .before .before .args in
+    let p = c .before .before .before .before .before .before .before .before .before .before .before .before .before .before .before .before .before .before .before .before .before .before .before .pre .1 in
+    let l = c .before .before .before .before .before .before .before .loop in
+    let y = c .before .before .before .before .before .before .previous-beside in
+    let w = run (l .loads) (l .times) (l .words) in
+    let long = room-run workRoom (l .inv .0) (omega arith) in
+    let h = sibling-more (a .rows .now) (a .due .now) (a .types .now) (a .count) (a .n) (a .links .now) (p .0) (a .p) (a .at) (p .1 .0 .0) (p .1 .1 .1 .0) (l .c) _ w (l .m) (l .inv .1 .0) (y .result) (y .ensures) (c .before .before .before .before .before .if1 .left) in
+    let f = sibling-after (a .rows .now) (a .due .now) (a .types .now) (a .count) (a .n) (a .links .now) (p .0) (a .p) (a .at) (p .1 .0 .0) (p .1 .1 .1 .0) (l .c) _ w (l .m) (l .inv .1 .0) (y .result) (y .ensures) (c .before .before .before .before .before .if1 .left) long in
+    (omega (arith, h, f, c .before .before .before .before .before .before .before .before .before .before .before .before .before .before .before .before .before .before .before .before .before .before .before .pre .0), (p .0, (h, (l .inv .0, sibling-room (a .rows .now) (a .due .now) (a .types .now) (a .count) (a .n) (a .links .now) (p .0) (a .p) (a .at) (p .1 .0 .0) (p .1 .1 .1 .0) (l .c) _ w (l .m) (l .inv .1 .0) (y .result) (y .ensures) (c .before .before .before .before .before .if1 .left) long))))
+
+below-hang-requires-2 : (t : ℕ) → below-lts.Need-hang-requires-2 (
+  last-below-reads.Asked,
+  last-below-reads.Learnt,
+  wire-row-reads.Asked,
+  wire-row-reads.Learnt,
+  previous-beside-reads.Asked,
+  previous-beside-reads.Learnt,
+  start-reads.Asked,
+  start-reads.Learnt,
+  put-site-reads.Asked,
+  put-site-reads.Learnt,
+  hang-reads.Asked,
+  hang-reads.Learnt,
+  seen-below t,
+  seen.Post,
+) (below-at t) below.Post below-Inv-loop below-μ-loop
+below-hang-requires-2 t c κs =
+    let a = c .before .before .before .before .before .before .before .before .before .before .before .before .before .before .before .before .before .before .before .before .before .before .before .before .before .before .before .before .before .before .before .before .args in
+    let p = c .before .before .before .before .before .before .before .before .before .before .before .before .before .before .before .before .before .before .before .before .before .before .before .before .before .before .before .before .before .before .before .before .pre .1 in
+    let l = c .before .before .before .before .before .before .before .before .before .before .before .before .before .before .before .before .loop in
+    let y = c .before .before .before .before .before .before .before .before .before .before .before .before .before .before .before .previous-beside in
+    let o = c .before .before .before .before .before .before .before .before .seen in
+    let w = run (l .loads) (l .times) (l .words) in
+    let long = room-run workRoom (l .inv .0) (omega arith) in
+    let h = sibling-more (a .rows .now) (a .due .now) (a .types .now) (a .count) (a .n) (a .links .now) (p .0) (a .p) (a .at) (p .1 .0 .0) (p .1 .1 .1 .0) (l .c) _ w (l .m) (l .inv .1 .0) (y .result) (y .ensures) (c .before .before .before .before .before .before .before .before .before .before .before .before .before .before .if1 .left) in
+    let r₂ : Room (o .last .1 .1 .1 .1 .1 .0) (o .last .1 .1 .1 .1 .1 .1 .0) (o .last .1 .1 .1 .1 .1 .1 .1 .0) = room-kept _ _ _ (l .inv .0) (c .before .before .before .before .before .before .before .loads5 .given) (c .before .before .before .before .before .times5 .given) (c .before .before .before .before .words5 .given) in
+    (row-there (a .rows .now) (a .due .now) (a .types .now) (a .count) (a .n) (a .links .now) (p .0) (y .result) h, (r₂, (ohms-in (a .rows .now) (a .due .now) (a .types .now) (a .count) (a .n) (a .links .now) (p .0) (y .result) h, sibling-hang (a .rows .now) (a .due .now) (a .types .now) (a .count) (a .n) (a .links .now) (p .0) (a .p) (a .at) (p .1 .0 .0) (p .1 .1 .1 .0) (l .c) _ w (l .m) (l .inv .1 .0) (y .result) (y .ensures) (c .before .before .before .before .before .before .before .before .before .before .before .before .before .before .if1 .left) long (run (o .last .1 .1 .1 .1 .1 .0) (o .last .1 .1 .1 .1 .1 .1 .0) (o .last .1 .1 .1 .1 .1 .1 .1 .0)) (room-run workRoom r₂ (omega arith)) (o .result) (o .ensures))))
+
+below-loop-less-2 : (t : ℕ) → below-lts.Need-loop-less-2 (
+  last-below-reads.Asked,
+  last-below-reads.Learnt,
+  wire-row-reads.Asked,
+  wire-row-reads.Learnt,
+  previous-beside-reads.Asked,
+  previous-beside-reads.Learnt,
+  start-reads.Asked,
+  start-reads.Learnt,
+  put-site-reads.Asked,
+  put-site-reads.Learnt,
+  hang-reads.Asked,
+  hang-reads.Learnt,
+  seen-below t,
+  seen.Post,
+) (below-at t) below.Post below-Inv-loop below-μ-loop
+below-loop-less-2 t c =
+    let a = c .before .before .before .before .before .before .before .before .before .before .before .before .before .before .before .before .before .before .before .before .before .before .before .before .before .before .before .before .before .before .before .before .before .before .before .before .before .before .args in
+    let p = c .before .before .before .before .before .before .before .before .before .before .before .before .before .before .before .before .before .before .before .before .before .before .before .before .before .before .before .before .before .before .before .before .before .before .before .before .before .before .pre .1 in
+    let l = c .before .before .before .before .before .before .before .before .before .before .before .before .before .before .before .before .before .before .before .before .before .before .loop in
+    let y = c .before .before .before .before .before .before .before .before .before .before .before .before .before .before .before .before .before .before .before .before .before .previous-beside in
+    sibling-earlier (a .rows .now) (a .due .now) (a .types .now) (a .count) (a .n) (a .links .now) (p .0) (a .p) (a .at) (p .1 .0 .0) (p .1 .1 .1 .0) (l .c) _ (run (l .loads) (l .times) (l .words)) (l .m) (l .inv .1 .0) (y .result) (y .ensures) (c .before .before .before .before .before .before .before .before .before .before .before .before .before .before .before .before .before .before .before .before .if1 .left)
+
+below-loop-again-2 : (t : ℕ) → below-lts.Need-loop-again-2 (
+  last-below-reads.Asked,
+  last-below-reads.Learnt,
+  wire-row-reads.Asked,
+  wire-row-reads.Learnt,
+  previous-beside-reads.Asked,
+  previous-beside-reads.Learnt,
+  start-reads.Asked,
+  start-reads.Learnt,
+  put-site-reads.Asked,
+  put-site-reads.Learnt,
+  hang-reads.Asked,
+  hang-reads.Learnt,
+  seen-below t,
+  seen.Post,
+) (below-at t) below.Post below-Inv-loop below-μ-loop
+below-loop-again-2 t c =
+    let a = c .before .before .before .before .before .before .before .before .before .before .before .before .before .before .before .before .before .before .before .before .before .before .before .before .before .before .before .before .before .before .before .before .before .before .before .before .before .before .args in
+    let p = c .before .before .before .before .before .before .before .before .before .before .before .before .before .before .before .before .before .before .before .before .before .before .before .before .before .before .before .before .before .before .before .before .before .before .before .before .before .before .pre .1 in
+    let l = c .before .before .before .before .before .before .before .before .before .before .before .before .before .before .before .before .before .before .before .before .before .before .loop in
+    let y = c .before .before .before .before .before .before .before .before .before .before .before .before .before .before .before .before .before .before .before .before .before .previous-beside in
+    let o = c .before .before .before .before .before .before .before .before .before .before .before .before .before .before .seen in
+    let u = c .before .before .before .before .before .hang2 in
+    let w = run (l .loads) (l .times) (l .words) in
+    let long = room-run workRoom (l .inv .0) (omega arith) in
+    let r₂ : Room (o .last .1 .1 .1 .1 .1 .0) (o .last .1 .1 .1 .1 .1 .1 .0) (o .last .1 .1 .1 .1 .1 .1 .1 .0) = room-kept _ _ _ (l .inv .0) (c .before .before .before .before .before .before .before .before .before .before .before .before .before .loads5 .given) (c .before .before .before .before .before .before .before .before .before .before .before .times5 .given) (c .before .before .before .before .before .before .before .before .before .before .words5 .given) in
+    let s = sibling-made (a .rows .now) (a .due .now) (a .types .now) (a .count) (a .n) (a .links .now) (p .0) (a .p) (a .at) (p .1 .0 .0) (p .1 .1 .1 .0) (l .c) _ w (l .m) (l .inv .1 .0) (y .result) (y .ensures) (c .before .before .before .before .before .before .before .before .before .before .before .before .before .before .before .before .before .before .before .before .if1 .left) long (run (o .last .1 .1 .1 .1 .1 .0) (o .last .1 .1 .1 .1 .1 .1 .0) (o .last .1 .1 .1 .1 .1 .1 .1 .0)) (room-run workRoom r₂ (omega arith)) (o .result) (o .ensures) (run (u .last .1 .1 .0) (u .last .1 .1 .1 .0) (u .last .1 .1 .1 .1 .0)) (u .result) (u .ensures) in
+    let k = l .inv .1 .1 in
+    (room-kept _ _ _ r₂ (c .before .before .before .before .loads6 .given) (c .before .before .times6 .given) (c .before .words6 .given), (s, record { loads = c .before .before .before .before .loads6 .given ∙ c .before .before .before .before .before .before .before .before .before .before .before .before .before .loads5 .given ∙ k .loads; times = c .before .before .times6 .given ∙ c .before .before .before .before .before .before .before .before .before .before .before .times5 .given ∙ k .times; words = c .before .words6 .given ∙ c .before .before .before .before .before .before .before .before .before .before .words5 .given ∙ k .words }))
 
 abbrev seen-Inv-loop : seen-lts.InvT-loop
 seen-Inv-loop rows due types count links loads₀ times₀ words₀ n row at r₀ m₀ loads times words r m =
@@ -566,10 +836,14 @@ pub +below+seen-spec : {M : Type 1} → statement M
   wire-row-reads.Learnt,
   previous-beside-reads.Asked,
   previous-beside-reads.Learnt,
-  seen-below t,
-  seen.Post,
+  start-reads.Asked,
+  start-reads.Learnt,
+  put-site-reads.Asked,
+  put-site-reads.Learnt,
   hang-reads.Asked,
   hang-reads.Learnt,
+  seen-below t,
+  seen.Post,
 )
     (below-at t)
     below.Post
@@ -583,11 +857,19 @@ pub +below+seen-spec : {M : Type 1} → statement M
     (below-same-length-2 t)
     (below-same-length-3 t)
     (below-returns t)
-    (below-add-seen t)
-    (below-seen-requires t)
+    (below-last-below-requires-2 t)
+    (below-add-start t)
+    (below-start-requires t)
+    (below-add-put-site t)
+    (below-put-site-requires t)
     (below-hang-requires t)
     (below-loop-less t)
-    (below-loop-again t))
+    (below-loop-again t)
+    (below-add-seen t)
+    (below-seen-requires t)
+    (below-hang-requires-2 t)
+    (below-loop-less-2 t)
+    (below-loop-again-2 t))
     λ t. seen-lts.spec (
       deepest-reads.Asked,
       deepest-reads.Learnt,
