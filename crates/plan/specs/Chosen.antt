@@ -14,10 +14,10 @@ use Rattle.rules.specs.Tables.{rowWords}
 use Rattle.rules.specs.Promises.{Columns, Lent}
 use Rattle.laws.specs.Steps.{best, value}
 use Rattle.laws.specs.Tabled.{rowAt}
-use Rattle.lists.specs.Parts.{part, part-cons}
-use Rattle.lists.specs.Run.{Candidate, blank, run, run-load, run-at, placeAt, words-read}
-use Rattle.lists.specs.Made.{Fit, Room, Stand, room-run}
-use Rattle.lists.specs.Choosing.{Chosen}
+use Rattle.columns.specs.Parts.{part, part-cons}
+use Rattle.columns.specs.Run.{Candidate, blank, run, run-load, run-at, placeAt, words-read}
+use Rattle.columns.specs.Made.{Fit, Room, Stand, room-run}
+use Rattle.columns.specs.Choosing.{Chosen}
 
 -- the work area, and the areas of a list
 abbrev pub columnsOf : (loads : List ℕ) (times : List ℤ) (words : List ℕ) → Columns

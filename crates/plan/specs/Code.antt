@@ -20,9 +20,9 @@ use Rattle.laws.specs.Walk.{noRow, under, seenAt, atRow-seen}
 use Rattle.laws.specs.Tabled.{rowAt, rowsFrom, rows-length, repeatersFrom, repeaters-length, repeaters-at}
 use Rattle.rows.specs.Links.{sitesAt, row-is}
 use Rattle.rows.specs.Backward.{previousAt}
-use Rattle.lists.specs.Parts.{part}
-use Rattle.lists.specs.Run.{Candidate}
-use Rattle.lists.specs.Made.{Gives}
+use Rattle.columns.specs.Parts.{part}
+use Rattle.columns.specs.Run.{Candidate}
+use Rattle.columns.specs.Made.{Gives}
 use Rattle.plan.specs.Shown.{siteList}
 use Rattle.plan.specs.Made.{Given, RowThere, Made, Driven, Wired, Hang, Sited, Started, Typed}
 use Rattle.plan.specs.Spine.{Rising, Spine, Above, spine-above, spine-after, spine-room, last-after, last-below, previous-earlier, previous-upto, end-sink, above-plain}

@@ -24,9 +24,9 @@ use Rattle.laws.specs.Tabled.{rowsFrom, repeaterAt, repeatersFrom}
 use Rattle.laws.specs.Ranges.{RepeaterInRange}
 use Rattle.rows.specs.Links.{Standing}
 use Rattle.rows.specs.Backward.{Backward}
-use Rattle.lists.specs.Parts.{part}
-use Rattle.lists.specs.Run.{Candidate, candidate}
-use Rattle.lists.specs.Made.{Fit}
+use Rattle.columns.specs.Parts.{part}
+use Rattle.columns.specs.Run.{Candidate, candidate}
+use Rattle.columns.specs.Made.{Fit}
 use Rattle.plan.specs.Shown.{Shows, startList}
 
 -- an accepted net in its tables, with its links

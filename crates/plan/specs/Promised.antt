@@ -41,9 +41,9 @@ use Rattle.laws.specs.Tabled.{rowAt, rowsFrom, rows-length, repeatersFrom, repe
 use Rattle.laws.specs.Checked.{tablesOf, countsOf, Passed, passed-own}
 use Rattle.rows.specs.Links.{row-is}
 use Rattle.rows.specs.Given.{neither, held, areas, net-accepted, standing, driver-is}
-use Rattle.lists.specs.Parts.{part, part-cons, part-length}
-use Rattle.lists.specs.Run.{Candidate, blank, run, stack, placeAt}
-use Rattle.lists.specs.Made.{Room, Stand, room-run}
+use Rattle.columns.specs.Parts.{part, part-cons, part-length}
+use Rattle.columns.specs.Run.{Candidate, blank, run, stack, placeAt}
+use Rattle.columns.specs.Made.{Room, Stand, room-run}
 use Rattle.plan.specs.Shown.{Shows, shows-some, shows-fit}
 use Rattle.plan.specs.Made.{Made}
 use Rattle.plan.specs.Chosen.{columnsOf, lentOf, shortBy, shortListBy, Ready, Choice}

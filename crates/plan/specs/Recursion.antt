@@ -40,9 +40,9 @@ use Rattle.laws.specs.Whole.{under-sink, under-tree}
 use Rattle.laws.specs.Walk.{noRow, sitesBefore, sitesBefore-step, sitesBefore-most, under, seenAt, child, Child, child-is, under-end}
 use Rattle.laws.specs.Tabled.{rowAt, rowsFrom, rows-length, repeatersFrom, repeaters-length}
 use Rattle.rows.specs.Links.{Links, row-is}
-use Rattle.lists.specs.Parts.{part, part-nil, part-cons, part-over, part-length, part-less, part-part}
-use Rattle.lists.specs.Run.{Candidate, candidate, blank}
-use Rattle.lists.specs.Made.{Fit, Gives}
+use Rattle.columns.specs.Parts.{part, part-nil, part-cons, part-over, part-length, part-less, part-part}
+use Rattle.columns.specs.Run.{Candidate, candidate, blank}
+use Rattle.columns.specs.Made.{Fit, Gives}
 use Rattle.plan.specs.Shown.{Shows, startList, siteList, shows-any, shows-length, shows-fit, shows-seen, shows-alone, shows-beside, shows-wired}
 use Rattle.plan.specs.Made.{Made, Wired, Hang, Sited}
 use Rattle.plan.specs.Links.{from, from-child, from-step, sites-step, room-next, room-seen, room-alone, room-first, seen-some, from-some, seen-proper, seen-within, from-proper, from-within, seen-apart, first-inside}

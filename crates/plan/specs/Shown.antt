@@ -28,8 +28,8 @@ use Rattle.laws.specs.Accepted.{Accepted}
 use Rattle.laws.specs.Hanging.{OnIf, ProperIf}
 use Rattle.laws.specs.Sums.{over}
 use Rattle.laws.specs.Within.{Within, reached-within}
-use Rattle.lists.specs.Run.{Candidate}
-use Rattle.lists.specs.Made.{Fit}
+use Rattle.columns.specs.Run.{Candidate}
+use Rattle.columns.specs.Made.{Fit}
 
 -- ---- the steps on lists, with nothing for nothing
 -- a sink's pin, or what hangs under the row

@@ -13,9 +13,9 @@ use Rattle.laws.specs.Steps.{merge}
 use Rattle.laws.specs.Moves.{wireStep, siteStep}
 use Rattle.laws.specs.Tabled.{repeatersFrom}
 use Rattle.laws.specs.Bounds.{wireStep-length}
-use Rattle.lists.specs.Parts.{part, part-length, part-less, part-part}
-use Rattle.lists.specs.Run.{Candidate}
-use Rattle.lists.specs.Made.{Room, Stand, Gives}
+use Rattle.columns.specs.Parts.{part, part-length, part-less, part-part}
+use Rattle.columns.specs.Run.{Candidate}
+use Rattle.columns.specs.Made.{Room, Stand, Gives}
 use Rattle.lists.specs.Branching.{Pair}
 use Rattle.lists.specs.Types.{repeatersOf, TypesIn}
 use Rattle.plan.specs.Shown.{siteList}

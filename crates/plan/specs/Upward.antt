@@ -22,9 +22,9 @@ use Rattle.laws.specs.Accepted.{Accepted}
 use Rattle.laws.specs.Room.{HasRoom}
 use Rattle.laws.specs.Walk.{noRow, sitesBefore, under, seenAt, child}
 use Rattle.rows.specs.Backward.{Backward, previousAt}
-use Rattle.lists.specs.Parts.{part, part-over}
-use Rattle.lists.specs.Run.{Candidate, candidate}
-use Rattle.lists.specs.Made.{Gives}
+use Rattle.columns.specs.Parts.{part, part-over}
+use Rattle.columns.specs.Run.{Candidate, candidate}
+use Rattle.columns.specs.Made.{Gives}
 use Rattle.plan.specs.Shown.{startList, siteList}
 use Rattle.plan.specs.Made.{Made, Driven, Wired, Hang}
 use Rattle.plan.specs.Links.{from, from-child}

@@ -14,8 +14,8 @@ ghost use Rattle.rules.specs.Promises.{CheckPromise, PlanOf, PlanPromise, ListO
 ghost use Rattle.laws.specs.Walk.{seenAt};
 ghost use Rattle.laws.specs.Tabled.{rowsFrom, repeatersFrom};
 ghost use Rattle.laws.specs.Checked.{tablesOf, countsOf, Passed};
-ghost use Rattle.lists.specs.Run.{run};
-ghost use Rattle.lists.specs.Made.{Room};
+ghost use Rattle.columns.specs.Run.{run};
+ghost use Rattle.columns.specs.Made.{Room};
 ghost use Rattle.plan.specs.Made.{Made};
 ghost use Rattle.plan.specs.Promised.{entriesOf, timingOf, Exact, Zeroed};
 ghost use Rattle.plan.specs.Chosen.{columnsOf, lentOf, fourAt, shortBy, shortListBy, Ready, Choice};
@@ -95,7 +95,7 @@ fn choose(
 {
     let driver = rows::row_at(rows, due, 0);
     let r = driver.resistance;
-    let best = lists::choices::best_at(loads, times, 0, len, r);
+    let best = columns::choices::best_at(loads, times, 0, 1, r);
     let b = best.at;
     let slack = best.value;
     put_placement(words, b, placement);
@@ -124,7 +124,7 @@ fn plan_in(
 {
     let len = make(types, rows, due, count, n, loads, times, words, 0);
     let t = choose(rows, due, loads, times, words, len, placement);
-    lists::areas::clear(loads, times, words, WORK_ROOM);
+    columns::areas::clear(loads, times, words, WORK_ROOM);
     t
 }
 
@@ -244,9 +244,9 @@ fn list_in(
     ensures few { λ len. ⌜ len ≤ listRoom ⌝ }
 {
     let len = make(types, rows, due, count, n, loads, times, words, row);
-    net::areas::copy_words(loads, list_loads, len);
-    net::areas::copy_times(times, list_times, len);
-    lists::areas::clear(loads, times, words, WORK_ROOM);
+    entries::copies::copy_words(loads, list_loads, len);
+    entries::copies::copy_times(times, list_times, len);
+    columns::areas::clear(loads, times, words, WORK_ROOM);
     len
 }
 

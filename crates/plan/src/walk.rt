@@ -13,9 +13,9 @@ ghost use Rattle.laws.specs.Room.{HasRoom};
 ghost use Rattle.laws.specs.Walk.{under, seenAt};
 ghost use Rattle.laws.specs.Tabled.{rowAt, rowsFrom, repeatersFrom};
 ghost use Rattle.rows.specs.Links.{linksRoom, sitesAt};
-ghost use Rattle.lists.specs.Parts.{part};
-ghost use Rattle.lists.specs.Run.{run};
-ghost use Rattle.lists.specs.Made.{Room, Gives};
+ghost use Rattle.columns.specs.Parts.{part};
+ghost use Rattle.columns.specs.Run.{run};
+ghost use Rattle.columns.specs.Made.{Room, Gives};
 ghost use Rattle.plan.specs.Shown.{siteList};
 ghost use Rattle.plan.specs.Made.{Given, RowThere, Made, Wired, Hang, Sited, Started, Typed};
 ghost use Rattle.plan.specs.Spine.{Rising, Spine};
@@ -88,7 +88,7 @@ pub fn start(
         Kind::Sink(pin) => {
             let load = pin.load;
             let time = pin.due;
-            lists::cells::put_pin(loads, times, words, at, load, time);
+            columns::cells::put_pin(loads, times, words, at, load, time);
         }
     }
 }

@@ -34,8 +34,7 @@ use Rattle.laws.specs.Tabled.{rowAt, rowsFrom, rows-length, repeatersFrom, repe
 use Rattle.laws.specs.Walk.{seenAt, atRow-seen}
 use Rattle.laws.specs.Checked.{Passed}
 use Rattle.rows.specs.Given.{neither, held, areas, net-accepted, standing, driver-is}
-use Rattle.net.specs.Checks.{checking}
-use Rattle.net.specs.TableSteps.{tablesOf, countsOf}
+use Rattle.net.specs.TableSteps.{checking, tablesOf, countsOf}
 use Rattle.slack.specs.Hung.{seenAs, hungOf, slackHung}
 use Rattle.slack.specs.Ready.{Sound, hungAt}
 use Rattle.slack.specs.Sound.{hung-same, sound}

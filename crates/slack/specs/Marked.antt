@@ -22,7 +22,7 @@ use Rattle.rules.specs.Refusals.{lineOfRow}
 use Rattle.rules.specs.Placements.{Placement, marks, markRefusal, marksFrom, placementRefusal}
 use Rattle.laws.specs.Tabled.{rowAt, rowsFrom, rows-length}
 use Rattle.laws.specs.Walk.{noRow, sitesBefore, sitesBefore-zero}
-use Rattle.net.specs.Checks.{checking}
+use Rattle.net.specs.TableSteps.{checking}
 use Rattle.rows.specs.Links.{Standing, row-is, count-next}
 use Rattle.slack.specs.Sites.{before-few, before-all, site-number, site-row}
 

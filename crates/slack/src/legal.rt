@@ -9,7 +9,7 @@ ghost use lib.ListN.{length};
 ghost use Rattle.rules.specs.Entries.{Entry, rowsOf, sitesOf};
 ghost use Rattle.rules.specs.Placements.{marks, marksFrom, placementRefusal};
 ghost use Rattle.rules.specs.Quantities.{typesRoom, rowsRoom, sitesRoom, placementRoom};
-ghost use Rattle.net.specs.Checks.{checking};
+ghost use Rattle.net.specs.TableSteps.{checking};
 ghost use Rattle.slack.specs.Marked.{overMark, NetOf, Marking};
 
 const SITES_ROOM: usize = 64;

@@ -1,6 +1,6 @@
 -- `plan::choose` meets its contract. Assumes nothing.
 use Rattle.plan.specs.Chosen.{chosen-inside, choice}
-use Rattle.lists.specs.Choosing.{stand-columns}
+use Rattle.columns.specs.Choosing.{stand-columns}
 use native.Mathlib.Omega.{arith}
 use borrow.Author.Needs.{needs}
 use Rattle.plan.proofs.choose.Statement.{statement}

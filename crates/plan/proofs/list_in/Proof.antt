@@ -1,8 +1,8 @@
 -- `plan::list_in` meets its contract. Assumes nothing.
 use Rattle.plan.specs.Promised.{Exact, exact-room, made-few, list-of, zeroed}
 use Rattle.plan.specs.Chosen.{lentOf}
-use Rattle.lists.specs.Made.{room-run}
-use Rattle.lists.specs.Run.{run}
+use Rattle.columns.specs.Made.{room-run}
+use Rattle.columns.specs.Run.{run}
 use Rattle.rules.specs.Quantities.{workRoom}
 use native.Mathlib.Omega.{arith}
 use mathlib.Core.Path.{refl, _∙_}

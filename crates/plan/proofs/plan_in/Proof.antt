@@ -1,7 +1,7 @@
 -- `plan::plan_in` meets its contract. Assumes nothing.
 use Rattle.plan.specs.Promised.{Exact, exact-room, ready, made-stand, plan-of, zeroed}
-use Rattle.lists.specs.Made.{room-run}
-use Rattle.lists.specs.Run.{run}
+use Rattle.columns.specs.Made.{room-run}
+use Rattle.columns.specs.Run.{run}
 use Rattle.rows.specs.Given.{standing}
 use Rattle.rules.specs.Quantities.{workRoom}
 use native.Mathlib.Omega.{arith}

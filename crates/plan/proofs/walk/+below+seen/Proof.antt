@@ -8,8 +8,8 @@ use lib.ListN.{getD}
 use Rattle.rules.specs.Quantities.{workRoom}
 use Rattle.laws.specs.Walk.{seenAt}
 use Rattle.laws.specs.Tabled.{rowsFrom, repeatersFrom}
-use Rattle.lists.specs.Made.{Room, room-run}
-use Rattle.lists.specs.Run.{run}
+use Rattle.columns.specs.Made.{Room, room-run}
+use Rattle.columns.specs.Run.{run}
 use Rattle.plan.specs.Made.{Made, Driven, Kept}
 use Rattle.plan.specs.Steps.{room-kept}
 use Rattle.plan.specs.Spine.{Spine, here}

@@ -3,8 +3,8 @@ use native.Mathlib.Omega.{arith}
 use Rattle.rules.specs.Quantities.{workRoom}
 use Rattle.rules.specs.Net.{wireOf}
 use Rattle.laws.specs.Tabled.{rowAt}
-use Rattle.lists.specs.Made.{room-run}
-use Rattle.lists.specs.Run.{run}
+use Rattle.columns.specs.Made.{room-run}
+use Rattle.columns.specs.Run.{run}
 use Rattle.plan.specs.Steps.{room-kept, hang-pair, hang-gives}
 use borrow.Author.Needs.{needs}
 use Rattle.plan.proofs.walk.hang.Statement.{statement}

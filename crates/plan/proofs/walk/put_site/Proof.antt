@@ -7,8 +7,8 @@ use lib.ListN.{getD}
 use Rattle.rules.specs.Quantities.{workRoom}
 use Rattle.laws.specs.Tabled.{rowAt}
 use Rattle.rows.specs.Links.{sitesAt}
-use Rattle.lists.specs.Made.{room-run}
-use Rattle.lists.specs.Run.{run}
+use Rattle.columns.specs.Made.{room-run}
+use Rattle.columns.specs.Run.{run}
 use Rattle.plan.specs.Steps.{sited-types, sited-stand, site-put, site-none}
 use borrow.Author.Needs.{needs}
 use Rattle.plan.proofs.walk.put_site.Statement.{statement}
