@@ -1,50 +1,32 @@
 -- The steps of the recursion in the code's own terms: the tables' words, the counts, the links. Assumes nothing.
 use mathlib.Core.Path.{_≡_, refl, sym, ap, _∙_}
-use mathlib.Core.Bool.{Bool, true, false, not}
-use mathlib.Core.List.{List, [], _∷_}
-use mathlib.Core.Option.{Option, none, some}
-use Prim.Native.Nat.{ℕ, suc, _+_, _*_, _-_, _≤_, _<_}
+use mathlib.Core.List.{List}
+use Prim.Native.Nat.{ℕ, _+_, _-_, _≤_, _<_}
 use native.Mathlib.Omega.{arith}
-use lib.Dec.{T}
 use lib.IntN.{ℤ}
-use lib.ListN.{length, getD, set, length-drop}
-use Rattle.rules.specs.declared.Kind.{Kind}
-use Rattle.rules.specs.declared.Kind.the-variants.{Driver, Point, Sink}
-use Rattle.rules.specs.declared.Pin.{Pin}
+use lib.ListN.{length, getD, length-drop}
 use Rattle.rules.specs.declared.Row.{Row}
-use Rattle.rules.specs.Quantities.{mostOhms, typesRoom, workRoom}
+use Rattle.rules.specs.Quantities.{mostOhms, workRoom}
 use Rattle.rules.specs.Entries.{Repeater}
-use Rattle.rules.specs.Refusals.{isSink}
-use Rattle.rules.specs.Net.{Wire, Tree, wireOf}
+use Rattle.rules.specs.Net.{wireOf}
 use Rattle.rules.specs.Slack.{typeOf}
 use Rattle.laws.specs.Joining.{join}
 use Rattle.laws.specs.Steps.{merge}
 use Rattle.laws.specs.Moves.{wireStep}
-use Rattle.laws.specs.Ranges.{RepeaterInRange}
 use Rattle.laws.specs.Accepted.{Accepted}
 use Rattle.laws.specs.Rows.{row-in, type-in}
 use Rattle.laws.specs.Room.{HasRoom, room-at}
-use Rattle.laws.specs.Walk.{noRow, sitesBefore, seenAt, child, atRow-seen}
-use Rattle.laws.specs.Tabled.{rowAt, rowsFrom, rows-length, repeaterAt, repeatersFrom, repeaters-length, repeaters-at}
-use Rattle.rows.specs.Links.{Links, nextAt, sitesAt, row-is}
+use Rattle.laws.specs.Walk.{noRow, under, seenAt, atRow-seen}
+use Rattle.laws.specs.Tabled.{rowAt, rowsFrom, rows-length, repeatersFrom, repeaters-length, repeaters-at}
+use Rattle.rows.specs.Links.{sitesAt, row-is}
+use Rattle.rows.specs.Backward.{previousAt}
 use Rattle.columns.specs.Parts.{part}
-use Rattle.columns.specs.Run.{Candidate, candidate}
+use Rattle.columns.specs.Run.{Candidate}
 use Rattle.columns.specs.Made.{Gives}
 use Rattle.plan.specs.Shown.{siteList}
-use Rattle.plan.specs.Made.{Given, Made, Wired, Hang, Sited, Started, Typed}
-use Rattle.plan.specs.Links.{from, room-next, room-alone}
-use Rattle.plan.specs.Recursion.{pin-sited, pin-made, first-there, first-room, under-sited, under-made, next-there, alone-wired, alone-made, own-room, beside-hang, beside-made}
-
--- ---- what a row starts with
-pub pin-is : (kind : Kind) (w w′ : List Candidate) (at : ℕ) → Started kind w w′ at true → (pin : Pin) × (kind ≡ Sink pin) × (w′ ≡ set w at (candidate (pin .load .0) (pin .due .0) (λ j. 0)))
-pin-is Driver w w′ at s = absurd (let z : _≡_ {A = ℕ} 0 1 = cc (s .0) in omega arith)
-pin-is Point w w′ at s = absurd (let z : _≡_ {A = ℕ} 0 1 = cc (s .0) in omega arith)
-pin-is (Sink pin) w w′ at s = (pin, refl, s .1)
-
-pub no-pin : (kind : Kind) (w w′ : List Candidate) (at : ℕ) → Started kind w w′ at false → T (not (isSink kind)) × (w′ ≡ w)
-no-pin Driver w w′ at s = (tt, s .1)
-no-pin Point w w′ at s = (tt, s .1)
-no-pin (Sink pin) w w′ at s = absurd (let z : _≡_ {A = ℕ} 0 1 = cc (s .0) in omega arith)
+use Rattle.plan.specs.Made.{Given, RowThere, Made, Driven, Wired, Hang, Sited, Started, Typed}
+use Rattle.plan.specs.Spine.{Rising, Spine, Above, spine-above, spine-after, spine-room, last-after, last-below, previous-earlier, previous-upto, end-sink, above-plain}
+use Rattle.plan.specs.Upward.{Siblings, pin-driven, under-driven, driven-made, last-wired, last-made, all-made, previous-after, previous-room, previous-hang, previous-made, made-since}
 
 module _ (ws : List ℕ) (ds : List ℤ) (ts : List ℕ) (count n : ℕ) (ls : List ℕ) (G : Given ws ds ts count n ls) where
   abbrev R : List Row
@@ -59,11 +41,11 @@ module _ (ws : List ℕ) (ds : List ℤ) (ts : List ℕ) (count n : ℕ) (ls : L
   types-n : length types ≡ count
   types-n = repeaters-length ts 0 count
 
-  inside-n : (i : ℕ) → i < n → i < length R
-  inside-n i h = rw rows-n h
+  inside-n : {i : ℕ} → i < n → i < length R
+  inside-n h = rw rows-n h
 
-  to-room : (at left : ℕ) (u : Option Tree) → HasRoom count at left u → HasRoom (length types) at left u
-  to-room at left u h = rw types-n h
+  row-n : {i : ℕ} → i < n → getD R i noRow ≡ rowAt ws ds i
+  row-n h = row-is ws ds n _ (rowAt ws ds _) h refl
 
   pub typed : Typed ts count
   unfolding typeOf
@@ -73,104 +55,98 @@ module _ (ws : List ℕ) (ds : List ℤ) (ts : List ℕ) (count n : ℕ) (ls : L
     inside = λ m h. let z : 0 + m ≡ m = omega arith in rw (repeaters-at ts _ 0 count m h, z) at (type-in (G .accepted) m (rw types-n h));
   }
 
-  -- ---- at a row
-  module _ (row at : ℕ) (h : row < n) (room : HasRoom count at (n - (row + 1)) (seenAt R row)) (x : Row) (x-is : x ≡ rowAt ws ds row) (k : ℕ) (k-is : k ≡ getD ls (sitesAt + row) 0) where
-    x-row : getD R row noRow ≡ x
-    x-row = row-is ws ds n row x h x-is
+  pub row-there : (i : ℕ) → i < n → RowThere ws ds i
+  row-there i h = let g = G .standing in (omega (arith, g .few), (omega (arith, g .rows-long), omega (arith, g .due-long)))
 
-    k-row : k ≡ sitesBefore R row
-    k-row = k-is ∙ G .linked .sites row (inside-n row h)
+  pub ohms-in : (i : ℕ) → i < n → rowAt ws ds i .resistance .0 ≤ mostOhms
+  ohms-in i h = rw (row-n h) at (row-in (G .accepted) noRow i (inside-n h) .resistance)
 
-    room-row : HasRoom (length types) at (length R - (row + 1)) (seenAt R row)
-    room-row = rw (types-n, rows-n) room
+  pub rising : Rising ls n
+  rising p h = rw rows-n at (last-after (G .linked) p (inside-n h))
+
+  -- ---- at a row on the way down
+  module _ (row at : ℕ) (h : row < n) (room : HasRoom count at (n - (row + 1)) (seenAt R row)) (r : ℕ) (way : Spine ls n row r) where
+    on-way : (r < length R) × HasRoom (length types) at (length R - (r + 1)) (seenAt R r)
+    on-way = spine-room (G .accepted) (G .linked) (length types) row at r (inside-n h) (rw (types-n, rows-n) room) (rw rows-n way)
+
+    pub way-inside : r < n
+    way-inside = rw rows-n at (on-way .0)
+
+    pub way-after : row ≤ r
+    way-after = spine-after rising way
+
+    pub way-room : HasRoom count at (n - (r + 1)) (seenAt R r)
+    way-room = rw (types-n, rows-n) at (on-way .1)
 
     pub start-fits : at < workRoom
-    start-fits = omega (arith, room)
+    start-fits = omega (arith, on-way .1)
 
-    module _ (w w₁ : List Candidate) (long : workRoom ≤ length w) where
-      pub sink-sited : Started (x .kind) w w₁ at true → Sited w₁ at 1 count (x .site) k
-      sink-sited s = let (pin, e, f) = pin-is (x .kind) w w₁ at s in rw types-n at (pin-sited (G .accepted) row at (inside-n row h) room-row x x-row k k-row w w₁ long pin e f)
+    pub started : (w w₁ : List Candidate) → workRoom ≤ length w → getD ls r 0 ≡ n → Started (rowAt ws ds r .kind) w w₁ at → Driven types R r w w₁ at 1
+    started w w₁ long e s =
+        let k = ap (λ x. x .kind) (row-n way-inside) in
+        let (pin, q) = end-sink (G .linked) (G .accepted) r (on-way .0) (e ∙ sym rows-n) (rowAt ws ds r .kind) k in
+        pin-driven (G .accepted) r at (on-way .0) (on-way .1) w w₁ long pin (k ∙ q) (rw q at s)
 
-      pub sink-made : (w₂ : List Candidate) (len : ℕ) → Started (x .kind) w w₁ at true → Gives w₁ w₂ at len (siteList types (x .site) k (part at (at + 1) w₁)) → Made types (seenAt R row) w w₂ at len
-      sink-made w₂ len s g = let (pin, e, f) = pin-is (x .kind) w w₁ at s in pin-made (G .accepted) row at (inside-n row h) room-row x x-row k k-row w w₁ long pin e f w₂ len g
+    module _ (w w₁ : List Candidate) (m : ℕ) (D : Driven types R r w w₁ at m) where
+      pub driven-sited : Sited w₁ at m count (rowAt ws ds r .site) (getD ls (sitesAt + r) 0)
+      driven-sited = rw (types-n, row-n way-inside, ← (G .linked .sites r (on-way .0))) at (D .sited)
 
-    module _ (w w₁ : List Candidate) (s : Started (x .kind) w w₁ at false) (first : ℕ) (first-is : first ≡ getD ls row 0) where
-      plain : T (not (isSink (x .kind)))
-      plain = no-pin (x .kind) w w₁ at s .0
+      pub site-made : (w₂ : List Candidate) (len : ℕ) → Gives w₁ w₂ at len (siteList types (rowAt ws ds r .site) (getD ls (sitesAt + r) 0) (part at (at + m) w₁)) → Made types (seenAt R r) w w₂ at len
+      site-made w₂ len g = driven-made (G .accepted) r at (on-way .0) (on-way .1) w w₁ w₂ m len D (rw (row-n way-inside, ← (G .linked .sites r (on-way .0))) g)
 
-      first-row : first ≡ child R row (row + 1)
-      first-row = first-is ∙ G .linked .first row (inside-n row h)
+    -- the row above it, and the list of what hangs under that
+    module _ (x : Row) (x-is : x ≡ rowAt ws ds r) (other : ¬ (r ≡ row)) where
+      pub above : Above ls n row r (x .parent)
+      above =
+          let (p, A) = spine-above way other in
+          let (d, q) = last-below (G .linked) p r (inside-n (A .inside)) (A .last) (on-way .0) in
+          let e : p ≡ x .parent = sym (d .parent) ∙ ap (λ y. y .parent) (row-n way-inside ∙ sym x-is) in
+          rw e at A
 
-      pub below-there : (row < first) × (first < n)
-      below-there = rw rows-n at (first-there (G .accepted) row at (inside-n row h) room-row x x-row k k-row plain first first-row)
+  pub under-made : (row at : ℕ) → row < n → HasRoom count at (n - (row + 1)) (seenAt R row) → (p : ℕ) → Spine ls n row p → getD ls p 0 < n → (w w₁ w₂ : List Candidate) → workRoom ≤ length w₂ → (m : ℕ) → part 0 at w₁ ≡ part 0 at w → Made types (under R p (p + 1)) w₁ w₂ at m → Driven types R p w w₂ at m
+  under-made row at h room p way below w w₁ w₂ long m b M =
+      let (i, r) = on-way row at h room p way in
+      under-driven (G .accepted) p at i r (above-plain (G .accepted) p (getD ls p 0) (last-below (G .linked) p (getD ls p 0) i refl (inside-n below) .0)) w w₂ long m (made-since w b M)
 
-      pub below-room : HasRoom count at (n - first) (from R first)
-      below-room = rw (types-n, rows-n) at (first-room (G .accepted) row at (inside-n row h) room-row x x-row k k-row plain first first-row)
+  -- ---- the rows under one parent
+  pub sibling-inside : (p c m at : ℕ) (w w₁ : List Candidate) → Siblings types R p c w w₁ at m → c < n
+  sibling-inside p c m at w w₁ S = rw rows-n at (S .below .inside)
 
-      module _ (w₂ : List Candidate) (long : workRoom ≤ length w₂) (m : ℕ) (M : Made types (from R first) w₁ w₂ at m) where
-        made-from : Made types (from R first) w w₂ at m
-        made-from = rw (no-pin (x .kind) w w₁ at s .1) at M
+  module _ (p at : ℕ) (h : p < n) (room : HasRoom count at (n - (p + 1)) (seenAt R p)) where
+    room-p : HasRoom (length types) at (length R - (p + 1)) (seenAt R p)
+    room-p = rw (types-n, rows-n) room
 
-        pub plain-sited : Sited w₂ at m count (x .site) k
-        plain-sited = rw types-n at (under-sited (G .accepted) row at (inside-n row h) room-row x x-row k k-row plain first first-row w w₂ long m made-from)
+    module _ (c : ℕ) (c-is : c ≡ getD ls p 0) (below : c < n) (w : List Candidate) (long : workRoom ≤ length w) (own : ℕ) (O : Made types (seenAt R c) w w at own) where
+      pub wire-ready : Wired w at own (wireOf (rowAt ws ds c))
+      wire-ready = rw (row-n below) at (last-wired (G .accepted) (G .linked) p at (inside-n h) room-p c (sym c-is) (inside-n below) w long own O)
 
-        pub plain-made : (w₃ : List Candidate) (len : ℕ) → Gives w₂ w₃ at len (siteList types (x .site) k (part at (at + m) w₂)) → Made types (seenAt R row) w w₃ at len
-        plain-made w₃ len g = under-made (G .accepted) row at (inside-n row h) room-row x x-row k k-row plain first first-row w w₂ long m made-from w₃ len g
+      pub wire-made : (w₁ : List Candidate) (m : ℕ) → Gives w w₁ at m (wireStep (wireOf (rowAt ws ds c)) (part at (at + own) w)) → Siblings types R p c w w₁ at m
+      wire-made w₁ m g = last-made (G .accepted) (G .linked) p at (inside-n h) room-p c (sym c-is) (inside-n below) w long own O w₁ m (rw (row-n below) g)
 
-  -- ---- from a row on
-  module _ (c at : ℕ) (one : 1 ≤ c) (h : c < n) (room : HasRoom count at (n - c) (from R c)) (x : Row) (x-is : x ≡ rowAt ws ds c) where
-    row-c : getD R c noRow ≡ x
-    row-c = row-is ws ds n c x h x-is
+    module _ (c : ℕ) (w w₁ : List Candidate) (m : ℕ) (S : Siblings types R p c w w₁ at m) (s : ℕ) (s-is : s ≡ getD ls (previousAt + c) 0) where
+      pub siblings-made : s ≡ n → Made types (under R p (p + 1)) w w₁ at m
+      siblings-made e = all-made (G .accepted) (G .linked) p at (inside-n h) room-p c w w₁ m S (sym s-is ∙ e ∙ sym rows-n)
 
-    abbrev link : Wire
-    link = record { resistance = x .resistance .0; capacitance = x .capacitance .0 }
+      module _ (more : ¬ (s ≡ n)) where
+        pub sibling-more : s < n
+        sibling-more = omega (arith, previous-upto (G .linked) p c s (S .below) (sym s-is), rows-n)
 
-    link-row : link ≡ wireOf (getD R c noRow)
-    unfolding wireOf
-    link-row = rw row-c
+        pub sibling-earlier : s < c
+        sibling-earlier = previous-earlier (G .linked) p c s (S .below) (sym s-is) (inside-n sibling-more)
 
-    room-c : HasRoom (length types) at (length R - c) (from R c)
-    room-c = rw (types-n, rows-n) room
+        module _ (long₁ : workRoom ≤ length w₁) where
+          pub sibling-after : p < s
+          sibling-after = previous-after (G .accepted) (G .linked) p at (inside-n h) room-p c w w₁ m S long₁ s (sym s-is) (inside-n sibling-more)
 
-    pub ohms-in : x .resistance .0 ≤ mostOhms
-    ohms-in = rw row-c at (row-in (G .accepted) noRow c (inside-n c h) .resistance)
+          pub sibling-room : HasRoom count (at + m) (n - (s + 1)) (seenAt R s)
+          sibling-room = rw (types-n, rows-n) at (previous-room (G .accepted) (G .linked) p at (inside-n h) room-p c w w₁ m S long₁ s (sym s-is) (inside-n sibling-more))
 
-    pub alone-room : HasRoom count at (n - (c + 1)) (seenAt R c)
-    alone-room = rw (types-n, rows-n) at (room-alone (length types) R c at (inside-n c h) room-c)
+          module _ (w₂ : List Candidate) (long₂ : workRoom ≤ length w₂) (own : ℕ) (O : Made types (seenAt R s) w₁ w₂ (at + m) own) where
+            pub sibling-hang : Hang w₂ at m own (wireOf (rowAt ws ds s))
+            sibling-hang = rw (row-n sibling-more) at (previous-hang (G .accepted) (G .linked) p at (inside-n h) room-p c w w₁ m S long₁ s (sym s-is) (inside-n sibling-more) w₂ long₂ own O)
 
-    module _ (next : ℕ) (next-is : next ≡ getD ls (nextAt + c) 0) where
-      next-row : next ≡ child R (getD R c noRow .parent) (c + 1)
-      next-row = next-is ∙ G .linked .next c one (inside-n c h)
-
-      pub next-after : (c < next) × (next ≤ n)
-      next-after = rw rows-n at (next-there (G .accepted) c at one (inside-n c h) room-c link link-row next next-row)
-
-      pub next-room : HasRoom count at (n - next) (from R next)
-      next-room = rw (types-n, rows-n) at (room-next (length types) R c at (inside-n c h) room-c next next-row)
-
-      module _ (last : next ≡ n) (w w₁ : List Candidate) (long : workRoom ≤ length w₁) (own : ℕ) (O : Made types (seenAt R c) w w₁ at own) where
-        last-row : next ≡ length R
-        last-row = last ∙ sym rows-n
-
-        pub last-wired : Wired w₁ at own link
-        last-wired = alone-wired (G .accepted) c at one (inside-n c h) room-c link link-row next next-row last-row w w₁ long own O
-
-        pub last-made : (w₂ : List Candidate) (len : ℕ) → Gives w₁ w₂ at len (wireStep link (part at (at + own) w₁)) → Made types (from R c) w w₂ at len
-        last-made w₂ len g = alone-made (G .accepted) c at one (inside-n c h) room-c link link-row next next-row last-row w w₁ long own O w₂ len g
-
-      module _ (more : ¬ (next ≡ n)) (w w₁ : List Candidate) (long₁ : workRoom ≤ length w₁) (later : ℕ) (L : Made types (from R next) w w₁ at later) where
-        more-row : next < length R
-        more-row = rw rows-n (omega (arith, next-after))
-
-        pub behind-room : HasRoom count (at + later) (n - (c + 1)) (seenAt R c)
-        behind-room = rw (types-n, rows-n) at (own-room (G .accepted) c at one (inside-n c h) room-c link link-row next next-row more-row w w₁ long₁ later L)
-
-        module _ (w₂ : List Candidate) (long₂ : workRoom ≤ length w₂) (own : ℕ) (O : Made types (seenAt R c) w₁ w₂ (at + later) own) where
-          pub both-hang : Hang w₂ at later own link
-          both-hang = beside-hang (G .accepted) c at one (inside-n c h) room-c link link-row next next-row more-row w w₁ long₁ later L w₂ long₂ own O
-
-          pub both-made : (w₃ : List Candidate) (len : ℕ) → Gives w₂ w₃ at len (merge join (wireStep link (part (at + later) (at + later + own) w₂)) (part at (at + later) w₂)) → Made types (from R c) w w₃ at len
-          both-made w₃ len g = beside-made (G .accepted) c at one (inside-n c h) room-c link link-row next next-row more-row w w₁ long₁ later L w₂ long₂ own O w₃ len g
+            pub sibling-made : (w₃ : List Candidate) (len : ℕ) → Gives w₂ w₃ at len (merge join (wireStep (wireOf (rowAt ws ds s)) (part (at + m) (at + m + own) w₂)) (part at (at + m) w₂)) → Siblings types R p s w w₃ at len
+            sibling-made w₃ len g = previous-made (G .accepted) (G .linked) p at (inside-n h) room-p c w w₁ m S long₁ s (sym s-is) (inside-n sibling-more) w₂ long₂ own O w₃ len (rw (row-n sibling-more) g)
 
 -- the room at the start of the work area
 pub start-room : (ws : List ℕ) (ds : List ℤ) (ts : List ℕ) (count n : ℕ) → Accepted (repeatersFrom ts 0 count) (rowsFrom ws ds 0 n) → (row : ℕ) → row < n → HasRoom count 0 (n - (row + 1)) (seenAt (rowsFrom ws ds 0 n) row)

@@ -2,7 +2,9 @@ pub mod Shown
 pub mod Made
 pub mod Steps
 pub mod Links
+pub mod Spine
 pub mod Recursion
+pub mod Upward
 pub mod Code
 pub mod Chosen
 pub mod Promised

@@ -1,37 +1,50 @@
 -- What the functions of the planner ask and give. Assumes nothing.
 use mathlib.Core.Path.{_≡_}
-use mathlib.Core.Bool.{Bool, true, false}
+use mathlib.Core.Bool.{Bool, true}
 use mathlib.Core.List.{List, map}
 use mathlib.Core.Option.{Option}
 use Prim.Native.Nat.{ℕ, suc, _+_, _*_, _-_, _≤_, _<_}
 use lib.IntN.{ℤ}
-use lib.ListN.{length, set}
+use lib.ListN.{length, getD, set}
 use Rattle.rules.specs.declared.Kind.{Kind}
 use Rattle.rules.specs.declared.Kind.the-variants.{Driver, Point, Sink}
+use Rattle.rules.specs.declared.Row.{Row}
 use Rattle.rules.specs.Lists.{All, Pairwise}
-use Rattle.rules.specs.Quantities.{typesRoom, sitesRoom, workRoom}
+use Rattle.rules.specs.Quantities.{typesRoom, rowsRoom, sitesRoom, workRoom}
 use Rattle.rules.specs.Entries.{Repeater}
 use Rattle.rules.specs.Net.{Wire, Tree}
-use Rattle.rules.specs.Tables.{typeWords}
+use Rattle.rules.specs.Tables.{typeWords, rowWords}
 use Rattle.laws.specs.Candidates.{Below}
 use Rattle.laws.specs.Joining.{join}
 use Rattle.laws.specs.Steps.{merge}
 use Rattle.laws.specs.Moves.{behind, wireStep}
 use Rattle.laws.specs.Accepted.{Accepted}
+use Rattle.laws.specs.Walk.{noRow, sitesBefore, under}
 use Rattle.laws.specs.Tabled.{rowsFrom, repeaterAt, repeatersFrom}
 use Rattle.laws.specs.Ranges.{RepeaterInRange}
-use Rattle.rows.specs.Links.{Standing, Links}
+use Rattle.rows.specs.Links.{Standing}
+use Rattle.rows.specs.Backward.{Backward}
 use Rattle.columns.specs.Parts.{part}
 use Rattle.columns.specs.Run.{Candidate, candidate}
 use Rattle.columns.specs.Made.{Fit}
-use Rattle.plan.specs.Shown.{Shows}
+use Rattle.plan.specs.Shown.{Shows, startList}
 
 -- an accepted net in its tables, with its links
 pub record Given (rows : List ℕ) (due : List ℤ) (types : List ℕ) (count n : ℕ) (links : List ℕ) : Type 0 where
   pub standing : Standing rows due n
   pub types-long : typeWords * typesRoom ≤ length types
   pub accepted : Accepted (repeatersFrom types 0 count) (rowsFrom rows due 0 n)
-  pub linked : Links (rowsFrom rows due 0 n) links
+  pub linked : Backward (rowsFrom rows due 0 n) links
+
+-- row i stands in the words
+abbrev pub RowThere : (rows : List ℕ) (due : List ℤ) (i : ℕ) → Type 0
+RowThere rows due i = (i < rowsRoom) × ((rowWords * i + rowWords ≤ length rows) × (i < length due))
+
+-- columns as long as they were
+pub record Kept (ls : List ℕ) (ts : List ℤ) (ws ls′ : List ℕ) (ts′ : List ℤ) (ws′ : List ℕ) : Type 0 where
+  pub loads : length ls′ ≡ length ls
+  pub times : length ts′ ≡ length ts
+  pub words : length ws′ ≡ length ws
 
 -- `len` candidates at a place show u, and all before the place is as it was
 pub record Made (types : List Repeater) (u : Option Tree) (w w′ : List Candidate) (at len : ℕ) : Type 0 where
@@ -62,11 +75,19 @@ pub record Sited (w : List Candidate) (at n count : ℕ) (hasSite : Bool) (k : �
   pub rising : Pairwise Below (part at (at + n) w)
   pub number : hasSite ≡ true → k < sitesRoom
 
+-- a row's pin or what hangs under it, at a place, where the row's site is still to be put on it
+pub record Driven (types : List Repeater) (rows : List Row) (r : ℕ) (w w′ : List Candidate) (at m : ℕ) : Type 0 where
+  pub before : part 0 at w′ ≡ part 0 at w
+  pub hung : List Candidate
+  pub shows : Shows types (under rows r (r + 1)) hung
+  pub list : part at (at + m) w′ ≡ startList (getD rows r noRow .kind) hung
+  pub sited : Sited w′ at m (length types) (getD rows r noRow .site) (sitesBefore rows r)
+
 -- a sink's pin is put there, or nothing is done
-abbrev pub Started : Kind → (w w′ : List Candidate) (at : ℕ) → Bool → Type 0
-Started Driver w w′ at put = (put ≡ false) × (w′ ≡ w)
-Started Point w w′ at put = (put ≡ false) × (w′ ≡ w)
-Started (Sink pin) w w′ at put = (put ≡ true) × (w′ ≡ set w at (candidate (pin .load .0) (pin .due .0) (λ j. 0)))
+abbrev pub Started : Kind → (w w′ : List Candidate) (at : ℕ) → Type 0
+Started Driver w w′ at = w′ ≡ w
+Started Point w w′ at = w′ ≡ w
+Started (Sink pin) w w′ at = w′ ≡ set w at (candidate (pin .load .0) (pin .due .0) (λ j. 0))
 
 -- types in their ranges
 pub record Typed (types : List ℕ) (count : ℕ) : Type 0 where

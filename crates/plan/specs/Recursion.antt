@@ -44,7 +44,7 @@ use Rattle.columns.specs.Parts.{part, part-nil, part-cons, part-over, part-leng
 use Rattle.columns.specs.Run.{Candidate, candidate, blank}
 use Rattle.columns.specs.Made.{Fit, Gives}
 use Rattle.plan.specs.Shown.{Shows, startList, siteList, shows-any, shows-length, shows-fit, shows-seen, shows-alone, shows-beside, shows-wired}
-use Rattle.plan.specs.Made.{Given, Made, Wired, Hang, Sited, Started}
+use Rattle.plan.specs.Made.{Made, Wired, Hang, Sited}
 use Rattle.plan.specs.Links.{from, from-child, from-step, sites-step, room-next, room-seen, room-alone, room-first, seen-some, from-some, seen-proper, seen-within, from-proper, from-within, seen-apart, first-inside}
 
 -- ---- a list that shows something, as it stands in the run
@@ -76,7 +76,7 @@ module _ {types : List Repeater} {rows : List Row} (ok : Accepted types rows) wh
         omega (arith, ok .sites-few, sitesBefore-most rows (r + 1))
 
     -- what is made there shows the row
-    seen-made : (w w₁ w₂ : List Candidate) (l : List Candidate) (len : ℕ) → Shows types (under rows r (r + 1)) l → part 0 at w₁ ≡ part 0 at w → Gives w₁ w₂ at len (siteList types (x .site) k (startList (x .kind) l)) → Made types (seenAt rows r) w w₂ at len
+    pub seen-made : (w w₁ w₂ : List Candidate) (l : List Candidate) (len : ℕ) → Shows types (under rows r (r + 1)) l → part 0 at w₁ ≡ part 0 at w → Gives w₁ w₂ at len (siteList types (x .site) k (startList (x .kind) l)) → Made types (seenAt rows r) w w₂ at len
     unfolding seenAt
     seen-made w w₁ w₂ l len s b G =
         let S : Shows types (seenAt rows r) (siteList types (x .site) k (startList (x .kind) l)) = rw (k-is, ← x-is) (shows-seen types (getD rows r noRow .site) (getD rows r noRow .kind) (sitesBefore rows r) (under rows r (r + 1)) l (seen-proper ok r inside) s) in
@@ -88,7 +88,7 @@ module _ {types : List Repeater} {rows : List Row} (ok : Accepted types rows) wh
       there : at < length w
       there = omega (arith, room)
 
-      alone : part at (at + 1) w₁ ≡ candidate (pin .load .0) (pin .due .0) (λ j. 0) ∷ []
+      pub alone : part at (at + 1) w₁ ≡ candidate (pin .load .0) (pin .due .0) (λ j. 0) ∷ []
       alone = rw w₁-is (part-cons at (at + 1) (set w at (candidate (pin .load .0) (pin .due .0) (λ j. 0))) blank (omega arith) (rw length-set (omega (arith, there))) ∙ rw (part-nil, getD-set-same w at (candidate (pin .load .0) (pin .due .0) (λ j. 0)) blank there))
 
       pin-fit : Fit (candidate (pin .load .0) (pin .due .0) (λ j. 0))
@@ -102,7 +102,7 @@ module _ {types : List Repeater} {rows : List Row} (ok : Accepted types rows) wh
       pub pin-sited : Sited w₁ at 1 (length types) (x .site) k
       pin-sited = record { some = omega arith; place = omega (arith, room, ok .types-few); fit = rw alone (cons pin-fit nil); rising = rw alone (cons nil nil); number = number }
 
-      nothing-under : under rows r (r + 1) ≡ none
+      pub nothing-under : under rows r (r + 1) ≡ none
       unfolding under
       nothing-under = rw (sitesBefore-step rows r inside) (under-sink ok noRow r _ inside (rw (x-is, sink-is) tt))
 

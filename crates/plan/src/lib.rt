@@ -52,7 +52,7 @@ fn make(
     ensures { λ len. ⌜ Made (repeatersFrom (now (types .entry)) 0 count) (seenAt (rowsFrom (now (rows .entry)) (now (due .entry)) 0 n) row) (run (now (loads .entry)) (now (times .entry)) (now (words .entry))) (run (now (loads .exit)) (now (times .exit)) (now (words .exit))) 0 len ⌝ }
 {
     let mut links = [0u16; 768];
-    rows::link(rows, due, n, &mut links);
+    rows::backward::link_back(rows, due, n, &mut links);
     walk::seen(
         rows,
         due,

@@ -1,86 +1,144 @@
-// The recursion over the table: the list at a row, and the list of what hangs under a row.
-use rules::Femtofarad;
+// The recursion over the table: the list at a row, and the list of what hangs under a row. Of the rows under the same parent the last
+// one's list is made first, by a loop; only the rows before it recurse.
 use rules::Kind;
-use rules::Ohm;
 ghost use mathlib.Core.Path.{_≡_};
-ghost use Prim.Native.Nat.{_+_, _*_, _-_, _≤_, _<_};
+ghost use Prim.Native.Nat.{_+_, _-_, _≤_, _<_};
 ghost use lib.ListN.{length, getD};
-ghost use Rattle.rules.specs.Quantities.{mostOhms, workRoom};
+ghost use Rattle.rules.specs.Quantities.{mostOhms, rowsRoom, workRoom};
+ghost use Rattle.rules.specs.Net.{wireOf};
 ghost use Rattle.laws.specs.Joining.{join};
 ghost use Rattle.laws.specs.Steps.{merge};
 ghost use Rattle.laws.specs.Moves.{wireStep};
+ghost use Rattle.laws.specs.Room.{HasRoom};
+ghost use Rattle.laws.specs.Walk.{under, seenAt};
+ghost use Rattle.laws.specs.Tabled.{rowAt, rowsFrom, repeatersFrom};
+ghost use Rattle.rows.specs.Links.{linksRoom, sitesAt};
 ghost use Rattle.columns.specs.Parts.{part};
 ghost use Rattle.columns.specs.Run.{run};
-ghost use Rattle.columns.specs.Made.{Room, Gives, wireOf};
-ghost use Rattle.laws.specs.Room.{HasRoom};
-ghost use Rattle.laws.specs.Walk.{seenAt};
-ghost use Rattle.laws.specs.Tabled.{rowsFrom, repeatersFrom};
+ghost use Rattle.columns.specs.Made.{Room, Gives};
 ghost use Rattle.plan.specs.Shown.{siteList};
-ghost use Rattle.plan.specs.Links.{from};
-ghost use Rattle.plan.specs.Made.{Given, Made, Hang, Sited, Started, Typed};
+ghost use Rattle.plan.specs.Made.{Given, RowThere, Made, Wired, Hang, Sited, Started, Typed};
+ghost use Rattle.plan.specs.Spine.{Rising, Spine};
 
-// A row's own list behind its wire, joined with the list of the later rows under the same parent, which stands before it.
-pub fn hang(
+// A row's list, put behind the row's wire.
+pub fn wire_row(
+    rows: &[u32],
+    due: &[i64],
     loads: &mut [u32],
     times: &mut [i64],
     words: &mut [u64],
+    row: usize,
+    at: usize,
+    n: usize,
+) -> usize
+    requires { ⌜ RowThere (now rows) (now due) row ⌝ }
+    requires { ⌜ Room (now loads) (now times) (now words) ⌝ }
+    requires { ⌜ rowAt (now rows) (now due) row .resistance .0 ≤ mostOhms ⌝ }
+    requires { ⌜ Wired (run (now loads) (now times) (now words)) at n (wireOf (rowAt (now rows) (now due) row)) ⌝ }
+    ensures { λ len. ⌜ Gives (run (now (loads .entry)) (now (times .entry)) (now (words .entry))) (run (now (loads .exit)) (now (times .exit)) (now (words .exit))) at len (wireStep (wireOf (rowAt (now (rows .entry)) (now (due .entry)) row)) (part at (at + n) (run (now (loads .entry)) (now (times .entry)) (now (words .entry))))) ⌝ }
+{
+    let x = rows::row_at(rows, due, row);
+    let r = x.resistance;
+    let c = x.capacitance;
+    lists::wires::wire_list(loads, times, words, at, n, r, c)
+}
+
+// A row's own list behind its wire, joined with the list of the later rows under the same parent, which stands before it.
+pub fn hang(
+    rows: &[u32],
+    due: &[i64],
+    loads: &mut [u32],
+    times: &mut [i64],
+    words: &mut [u64],
+    row: usize,
     at: usize,
     m: usize,
     n: usize,
-    r: Ohm,
-    c: Femtofarad,
 ) -> usize
+    requires { ⌜ RowThere (now rows) (now due) row ⌝ }
     requires { ⌜ Room (now loads) (now times) (now words) ⌝ }
-    requires { ⌜ r .0 ≤ mostOhms ⌝ }
-    requires { ⌜ Hang (run (now loads) (now times) (now words)) at m n (wireOf (r .0) (c .0)) ⌝ }
-    ensures { λ len. ⌜ Gives (run (now (loads .entry)) (now (times .entry)) (now (words .entry))) (run (now (loads .exit)) (now (times .exit)) (now (words .exit))) at len (merge join (wireStep (wireOf (r .0) (c .0)) (part (at + m) (at + m + n) (run (now (loads .entry)) (now (times .entry)) (now (words .entry))))) (part at (at + m) (run (now (loads .entry)) (now (times .entry)) (now (words .entry))))) ⌝ }
+    requires { ⌜ rowAt (now rows) (now due) row .resistance .0 ≤ mostOhms ⌝ }
+    requires { ⌜ Hang (run (now loads) (now times) (now words)) at m n (wireOf (rowAt (now rows) (now due) row)) ⌝ }
+    ensures { λ len. ⌜ Gives (run (now (loads .entry)) (now (times .entry)) (now (words .entry))) (run (now (loads .exit)) (now (times .exit)) (now (words .exit))) at len (merge join (wireStep (wireOf (rowAt (now (rows .entry)) (now (due .entry)) row)) (part (at + m) (at + m + n) (run (now (loads .entry)) (now (times .entry)) (now (words .entry))))) (part at (at + m) (run (now (loads .entry)) (now (times .entry)) (now (words .entry))))) ⌝ }
 {
-    let k = lists::wires::wire_list(loads, times, words, at + m, n, r, c);
+    let k = wire_row(rows, due, loads, times, words, row, at + m, n);
     lists::branches::join_lists(loads, times, words, at, m, k)
 }
 
-// A sink's pin as the one candidate of a list; of any other row nothing is put, and the answer is no.
-pub fn start(loads: &mut [u32], times: &mut [i64], words: &mut [u64], at: usize, kind: Kind) -> bool
+// A sink's pin as the one candidate of a list; of any other row nothing is put.
+pub fn start(
+    rows: &[u32],
+    due: &[i64],
+    loads: &mut [u32],
+    times: &mut [i64],
+    words: &mut [u64],
+    row: usize,
+    at: usize,
+)
+    requires { ⌜ RowThere (now rows) (now due) row ⌝ }
     requires { ⌜ Room (now loads) (now times) (now words) ⌝ }
     requires { ⌜ at < workRoom ⌝ }
-    ensures { λ put. ⌜ Started kind (run (now (loads .entry)) (now (times .entry)) (now (words .entry))) (run (now (loads .exit)) (now (times .exit)) (now (words .exit))) at put ⌝ }
+    ensures { λ _. ⌜ Started (rowAt (now (rows .entry)) (now (due .entry)) row .kind) (run (now (loads .entry)) (now (times .entry)) (now (words .entry))) (run (now (loads .exit)) (now (times .exit)) (now (words .exit))) at ⌝ }
 {
+    let x = rows::row_at(rows, due, row);
+    let kind = x.kind;
     match kind {
-        Kind::Driver => false,
-        Kind::Point => false,
+        Kind::Driver => {}
+        Kind::Point => {}
         Kind::Sink(pin) => {
             let load = pin.load;
-            let due = pin.due;
-            columns::cells::put_pin(loads, times, words, at, load, due);
-            true
+            let time = pin.due;
+            columns::cells::put_pin(loads, times, words, at, load, time);
         }
     }
 }
 
-// With the repeaters of site k, if the row has one.
+// With the repeaters of the row's site, if it has one.
 pub fn put_site(
+    rows: &[u32],
+    due: &[i64],
     types: &[u32],
     count: usize,
+    links: &[u16],
     loads: &mut [u32],
     times: &mut [i64],
     words: &mut [u64],
+    row: usize,
     at: usize,
     n: usize,
-    k: usize,
-    site: bool,
 ) -> usize
+    requires { ⌜ RowThere (now rows) (now due) row ⌝ }
     requires { ⌜ Typed (now types) count ⌝ }
+    requires { ⌜ length (now links) ≡ linksRoom ⌝ }
     requires { ⌜ Room (now loads) (now times) (now words) ⌝ }
-    requires { ⌜ Sited (run (now loads) (now times) (now words)) at n count site k ⌝ }
-    ensures { λ len. ⌜ Gives (run (now (loads .entry)) (now (times .entry)) (now (words .entry))) (run (now (loads .exit)) (now (times .exit)) (now (words .exit))) at len (siteList (repeatersFrom (now (types .entry)) 0 count) site k (part at (at + n) (run (now (loads .entry)) (now (times .entry)) (now (words .entry))))) ⌝ }
+    requires { ⌜ Sited (run (now loads) (now times) (now words)) at n count (rowAt (now rows) (now due) row .site) (getD (now links) (sitesAt + row) 0) ⌝ }
+    ensures { λ len. ⌜ Gives (run (now (loads .entry)) (now (times .entry)) (now (words .entry))) (run (now (loads .exit)) (now (times .exit)) (now (words .exit))) at len (siteList (repeatersFrom (now (types .entry)) 0 count) (rowAt (now (rows .entry)) (now (due .entry)) row .site) (getD (now (links .entry)) (sitesAt + row) 0) (part at (at + n) (run (now (loads .entry)) (now (times .entry)) (now (words .entry))))) ⌝ }
 {
-    if site {
+    let x = rows::row_at(rows, due, row);
+    if x.site {
+        let k = rows::sites_before(links, row);
         return lists::sites::put_types(types, count, loads, times, words, at, n, k);
     }
     n
 }
 
-// The list at a row, made at a place: its pin, or what hangs under it, and its site.
+// From a row down along last rows below to one that has none.
+pub fn deepest(links: &[u16], n: usize, row: usize) -> usize
+    requires { ⌜ (row < n) × (n ≤ rowsRoom) ⌝ }
+    requires { ⌜ (length (now links) ≡ linksRoom) × Rising (now links) n ⌝ }
+    ensures along { λ r. ⌜ Spine (now (links .entry)) n row r ⌝ }
+    ensures end { λ r. ⌜ (r < n) × (getD (now (links .entry)) r 0 ≡ n) ⌝ }
+{
+    let mut r = row;
+    let mut c = rows::backward::last_below(links, r);
+    while c != n {
+        r = c;
+        c = rows::backward::last_below(links, r);
+    }
+    r
+}
+
+// The list at a row, made at a place: from the deepest row up, each row's list is put under the row above it, and that row's site on it.
 pub fn seen(
     rows: &[u32],
     due: &[i64],
@@ -100,33 +158,47 @@ pub fn seen(
     requires { ⌜ HasRoom count at (n - (row + 1)) (seenAt (rowsFrom (now rows) (now due) 0 n) row) ⌝ }
     ensures { λ len. ⌜ Made (repeatersFrom (now (types .entry)) 0 count) (seenAt (rowsFrom (now (rows .entry)) (now (due .entry)) 0 n) row) (run (now (loads .entry)) (now (times .entry)) (now (words .entry))) (run (now (loads .exit)) (now (times .exit)) (now (words .exit))) at len ⌝ }
 {
-    let x = rows::row_at(rows, due, row);
-    let kind = x.kind;
-    let site = x.site;
-    let k = rows::sites_before(links, row);
-    let put = start(loads, times, words, at, kind);
-    if put {
-        return put_site(types, count, loads, times, words, at, 1, k, site);
+    let mut r = deepest(links, n, row);
+    start(rows, due, loads, times, words, r, at);
+    let mut m = 1;
+    loop {
+        let len = put_site(
+            rows,
+            due,
+            types,
+            count,
+            links,
+            loads,
+            times,
+            words,
+            r,
+            at,
+            m,
+        );
+        if r == row {
+            return len;
+        }
+        let x = rows::row_at(rows, due, r);
+        r = x.parent as usize;
+        m = below(
+            rows,
+            due,
+            types,
+            count,
+            links,
+            loads,
+            times,
+            words,
+            n,
+            r,
+            at,
+            len,
+        );
     }
-    let first = rows::first_below(links, row);
-    let m = below(
-        rows,
-        due,
-        types,
-        count,
-        links,
-        loads,
-        times,
-        words,
-        n,
-        first,
-        at,
-    );
-    put_site(types, count, loads, times, words, at, m, k, site)
 }
 
-// The list of row c behind its wire and of the rows after it under the same parent, made at a place: the later rows first, the row's own
-// behind them.
+// The list of what hangs under row p, made at a place where the list at p's last row below stands: that one behind its wire, then each row
+// before it under p, its own list behind what is made already. A sink's list is made here, so that only other rows recurse.
 pub fn below(
     rows: &[u32],
     due: &[i64],
@@ -137,60 +209,56 @@ pub fn below(
     times: &mut [i64],
     words: &mut [u64],
     n: usize,
-    c: usize,
+    p: usize,
     at: usize,
+    len: usize,
 ) -> usize
     requires { ⌜ Given (now rows) (now due) (now types) count n (now links) ⌝ }
-    requires { ⌜ (1 ≤ c) × (c < n) ⌝ }
+    requires { ⌜ (p < n) × (getD (now links) p 0 < n) ⌝ }
     requires { ⌜ Room (now loads) (now times) (now words) ⌝ }
-    requires { ⌜ HasRoom count at (n - c) (from (rowsFrom (now rows) (now due) 0 n) c) ⌝ }
-    ensures { λ len. ⌜ Made (repeatersFrom (now (types .entry)) 0 count) (from (rowsFrom (now (rows .entry)) (now (due .entry)) 0 n) c) (run (now (loads .entry)) (now (times .entry)) (now (words .entry))) (run (now (loads .exit)) (now (times .exit)) (now (words .exit))) at len ⌝ }
+    requires { ⌜ HasRoom count at (n - (p + 1)) (seenAt (rowsFrom (now rows) (now due) 0 n) p) ⌝ }
+    requires { ⌜ Made (repeatersFrom (now types) 0 count) (seenAt (rowsFrom (now rows) (now due) 0 n) (getD (now links) p 0)) (run (now loads) (now times) (now words)) (run (now loads) (now times) (now words)) at len ⌝ }
+    ensures { λ m. ⌜ Made (repeatersFrom (now (types .entry)) 0 count) (under (rowsFrom (now (rows .entry)) (now (due .entry)) 0 n) p (p + 1)) (run (now (loads .entry)) (now (times .entry)) (now (words .entry))) (run (now (loads .exit)) (now (times .exit)) (now (words .exit))) at m ⌝ }
 {
-    let x = rows::row_at(rows, due, c);
-    let r = x.resistance;
-    let cap = x.capacitance;
-    let next = rows::next_beside(links, c);
-    if next == n {
-        let own = seen(
-            rows,
-            due,
-            types,
-            count,
-            links,
-            loads,
-            times,
-            words,
-            n,
-            c,
-            at,
-        );
-        return lists::wires::wire_list(loads, times, words, at, own, r, cap);
+    let mut c = rows::backward::last_below(links, p);
+    let mut m = wire_row(rows, due, loads, times, words, c, at, len);
+    loop {
+        c = rows::backward::previous_beside(links, c);
+        if c == n {
+            return m;
+        }
+        let d = rows::backward::last_below(links, c);
+        if d == n {
+            start(rows, due, loads, times, words, c, at + m);
+            let own = put_site(
+                rows,
+                due,
+                types,
+                count,
+                links,
+                loads,
+                times,
+                words,
+                c,
+                at + m,
+                1,
+            );
+            m = hang(rows, due, loads, times, words, c, at, m, own);
+        } else {
+            let own = seen(
+                rows,
+                due,
+                types,
+                count,
+                links,
+                loads,
+                times,
+                words,
+                n,
+                c,
+                at + m,
+            );
+            m = hang(rows, due, loads, times, words, c, at, m, own);
+        }
     }
-    let later = below(
-        rows,
-        due,
-        types,
-        count,
-        links,
-        loads,
-        times,
-        words,
-        n,
-        next,
-        at,
-    );
-    let own = seen(
-        rows,
-        due,
-        types,
-        count,
-        links,
-        loads,
-        times,
-        words,
-        n,
-        c,
-        at + later,
-    );
-    hang(loads, times, words, at, later, own, r, cap)
 }

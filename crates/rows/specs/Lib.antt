@@ -1,3 +1,4 @@
 pub mod Rows
 pub mod Links
+pub mod Backward
 pub mod Given

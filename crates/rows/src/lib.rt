@@ -16,6 +16,8 @@ ghost use Rattle.laws.specs.Tabled.{kindOf, rowAt, rowsFrom, repeaterAt};
 ghost use Rattle.rows.specs.Rows.{IsBuffer};
 ghost use Rattle.rows.specs.Links.{Links, Earlier, Counted, Standing, linksRoom, nextAt, sitesAt};
 
+pub mod backward;
+
 const ROW_WORDS: usize = 6;
 
 const TYPE_WORDS: usize = 3;

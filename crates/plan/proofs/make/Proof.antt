@@ -7,11 +7,11 @@ use borrow.Author.Needs.{needs}
 use Rattle.plan.proofs.make.Statement.{statement}
 use Rattle.plan.proofs.make.Tie as tie
 
-slice-aggregate-link : tie.Need-slice-aggregate-link
-slice-aggregate-link c = search needs
+slice-aggregate-link-back : tie.Need-slice-aggregate-link-back
+slice-aggregate-link-back c = search needs
 
-link-requires : tie.Need-link-requires
-link-requires c κs =
+link-back-requires : tie.Need-link-back-requires
+link-back-requires c κs =
     let p = c .before .before .before .before .before .pre .0 in
     (standing p, (earlier p, length-replicate {A = ℕ} 768 0))
 
@@ -22,7 +22,7 @@ seen-requires : tie.Need-seen-requires
 seen-requires c κs =
     let a = c .before .before .before .before .before .before .before .before .before .before .before .args in
     let p = c .before .before .before .before .before .before .before .before .before .before .before .pre in
-    (record { standing = standing (p .0); types-long = areas (p .0) .types-room; accepted = net-accepted (p .0); linked = c .before .before .before .before .before .link .ensures }, (p .1 .0, (p .1 .1, start-room (a .rows .now) (a .due .now) (a .types .now) (a .count) (a .n) (net-accepted (p .0)) (a .row) (p .1 .0))))
+    (record { standing = standing (p .0); types-long = areas (p .0) .types-room; accepted = net-accepted (p .0); linked = c .before .before .before .before .before .link-back .ensures }, (p .1 .0, (p .1 .1, start-room (a .rows .now) (a .due .now) (a .types .now) (a .count) (a .n) (net-accepted (p .0)) (a .row) (p .1 .0))))
 
 same-length : tie.Need-same-length
 same-length c = search needs
@@ -40,8 +40,8 @@ pub make-spec : {M : Type 1} → statement M
 make-spec =
     tie.close
     (tie.spec
-    slice-aggregate-link
-    link-requires
+    slice-aggregate-link-back
+    link-back-requires
     slice-aggregate-seen
     seen-requires
     same-length

@@ -1,15 +1,20 @@
--- `plan::walk::below` and `plan::walk::seen` meet their contracts. What falls is twice the rows left, and one for `below`. Assumes nothing.
-use Rattle.plan.specs.Code.{typed, start-fits, sink-sited, sink-made, below-there, below-room, plain-sited, plain-made, ohms-in, alone-room, next-after, next-room, last-wired, last-made, behind-room, both-hang, both-made}
-use Rattle.plan.specs.Steps.{room-kept, wired-stand}
-use Rattle.plan.specs.Made.{Started}
+-- `plan::walk::below` and `plan::walk::seen` meet their contracts. What falls is twice the rows left, and one for `seen`; in the loops the row
+-- falls. Assumes nothing.
+use mathlib.Core.Path.{_≡_, refl, sym, _∙_}
+use Prim.Native.Nat.{ℕ, _+_, _*_, _-_, _<_}
+use native.Mathlib.Omega.{arith}
+use borrow.Author.Needs.{needs}
+use lib.ListN.{getD}
+use Rattle.rules.specs.Quantities.{workRoom}
+use Rattle.laws.specs.Walk.{seenAt}
+use Rattle.laws.specs.Tabled.{rowsFrom, repeatersFrom}
 use Rattle.columns.specs.Made.{Room, room-run}
 use Rattle.columns.specs.Run.{run}
-use Rattle.rules.specs.Quantities.{workRoom}
-use native.Mathlib.Omega.{arith}
-use Prim.Native.Nat.{_+_, _*_, _-_}
-use mathlib.Core.Bool.{true, false}
-use mathlib.Core.Path.{_≡_, _∙_}
-use Prim.Native.Nat.{ℕ, _<_}
+use Rattle.plan.specs.Made.{Made, Driven, Kept}
+use Rattle.plan.specs.Steps.{room-kept}
+use Rattle.plan.specs.Spine.{Spine, here}
+use Rattle.plan.specs.Upward.{Siblings, made-since, made-here, siblings-here, driven-here}
+use Rattle.plan.specs.Code.{typed, row-there, ohms-in, rising, way-inside, way-after, way-room, start-fits, started, driven-sited, site-made, above, under-made, wire-ready, wire-made, sibling-inside, siblings-made, sibling-more, sibling-earlier, sibling-after, sibling-room, sibling-hang, sibling-made}
 use borrow.Fn.Kinds.{In}
 use borrow.Fn.PlainCycle.{Measures, is, falls, and}
 use Rattle.plan.proofs.walk.below.Reads as below
@@ -18,22 +23,22 @@ use Rattle.plan.proofs.walk.+below+seen.Lts-below as below-lts
 use Rattle.plan.proofs.walk.seen.Reads as seen
 use Rattle.plan.proofs.walk.seen.Kinds as seen-kinds
 use Rattle.plan.proofs.walk.+below+seen.Lts-seen as seen-lts
-use Rattle.lists.proofs.wires.wire_list.Reads as wire-list-reads
+use Rattle.plan.proofs.walk.deepest.Reads as deepest-reads
 use Rattle.plan.proofs.walk.hang.Reads as hang-reads
 use Rattle.plan.proofs.walk.put_site.Reads as put-site-reads
 use Rattle.plan.proofs.walk.start.Reads as start-reads
-use Rattle.rows.proofs.first_below.Reads as first-below-reads
-use Rattle.rows.proofs.next_beside.Reads as next-beside-reads
+use Rattle.plan.proofs.walk.wire_row.Reads as wire-row-reads
+use Rattle.rows.proofs.backward.last_below.Reads as last-below-reads
+use Rattle.rows.proofs.backward.previous_beside.Reads as previous-beside-reads
 use Rattle.rows.proofs.row_at.Reads as row-at-reads
-use Rattle.rows.proofs.sites_before.Reads as sites-before-reads
 use Rattle.plan.proofs.walk.+below+seen.{statement}
 use Rattle.plan.proofs.walk.+below+seen.Tie.{close}
 
 abbrev μ-below : Measures 7 below-kinds.ps ℕ
-μ-below κs a = 2 * (a .1 .1 .1 .1 .1 .1 .1 .1 .0 - a .1 .1 .1 .1 .1 .1 .1 .1 .1 .0) + 1
+μ-below κs a = 2 * (a .1 .1 .1 .1 .1 .1 .1 .1 .0 - a .1 .1 .1 .1 .1 .1 .1 .1 .1 .0)
 
 abbrev μ-seen : Measures 7 seen-kinds.ps ℕ
-μ-seen κs a = 2 * (a .1 .1 .1 .1 .1 .1 .1 .1 .0 - a .1 .1 .1 .1 .1 .1 .1 .1 .1 .0)
+μ-seen κs a = 2 * (a .1 .1 .1 .1 .1 .1 .1 .1 .0 - a .1 .1 .1 .1 .1 .1 .1 .1 .1 .0) + 1
 
 abbrev below-at : ℕ → In 7 below-kinds.ps
 below-at t = and 7 below-kinds.ps (is 7 below-kinds.ps μ-below t) below.Pre
@@ -47,719 +52,850 @@ seen-at t = and 7 seen-kinds.ps (is 7 seen-kinds.ps μ-seen t) seen.Pre
 abbrev seen-below : ℕ → In 7 seen-kinds.ps
 seen-below t = and 7 seen-kinds.ps (falls 7 seen-kinds.ps _<_ μ-seen t) seen.Pre
 
-below-row-at-requires : (t : ℕ) → below-lts.Need-row-at-requires (
-  row-at-reads.Asked,
-  row-at-reads.Learnt,
-  next-beside-reads.Asked,
-  next-beside-reads.Learnt,
-  seen-below t,
-  seen.Post,
-  wire-list-reads.Asked,
-  wire-list-reads.Learnt,
-  below-below t,
-  below.Post,
-  hang-reads.Asked,
-  hang-reads.Learnt,
-) (below-at t) below.Post
-below-row-at-requires t c κs =
-    let s = c .before .before .before .before .before in
-    let a = s .args in
-    let p = s .pre .1 in
-    let g = p .0 .standing in
-    omega (arith, g .few, g .rows-long, g .due-long, p .1 .0 .1)
+abbrev below-Inv-loop : below-lts.InvT-loop
+below-Inv-loop rows due types count links loads₀ times₀ words₀ n p at len c₀ m₀ loads times words c m =
+    Room loads times words × (Siblings (repeatersFrom types 0 count) (rowsFrom rows due 0 n) p c (run loads₀ times₀ words₀) (run loads times words) at m × Kept loads₀ times₀ words₀ loads times words)
 
-below-next-beside-requires : (t : ℕ) → below-lts.Need-next-beside-requires (
-  row-at-reads.Asked,
-  row-at-reads.Learnt,
-  next-beside-reads.Asked,
-  next-beside-reads.Learnt,
-  seen-below t,
-  seen.Post,
-  wire-list-reads.Asked,
-  wire-list-reads.Learnt,
-  below-below t,
-  below.Post,
-  hang-reads.Asked,
-  hang-reads.Learnt,
-) (below-at t) below.Post
-below-next-beside-requires t c κs =
-    let s = c .before .before .before .before .before .before .before .before in
-    let a = s .args in
-    let p = s .pre .1 in
-    (omega (arith, p .0 .standing .few, p .1 .0 .1), p .0 .linked .long)
+abbrev below-μ-loop : below-lts.MeasureT-loop
+below-μ-loop rows due types count links loads₀ times₀ words₀ n p at len c₀ m₀ loads times words c m = c
 
-below-seen-requires : (t : ℕ) → below-lts.Need-seen-requires (
-  row-at-reads.Asked,
-  row-at-reads.Learnt,
-  next-beside-reads.Asked,
-  next-beside-reads.Learnt,
-  seen-below t,
-  seen.Post,
-  wire-list-reads.Asked,
-  wire-list-reads.Learnt,
-  below-below t,
-  below.Post,
+below-last-below-requires : (t : ℕ) → below-lts.Need-last-below-requires (
+  last-below-reads.Asked,
+  last-below-reads.Learnt,
+  wire-row-reads.Asked,
+  wire-row-reads.Learnt,
+  previous-beside-reads.Asked,
+  previous-beside-reads.Learnt,
+  start-reads.Asked,
+  start-reads.Learnt,
+  put-site-reads.Asked,
+  put-site-reads.Learnt,
   hang-reads.Asked,
   hang-reads.Learnt,
-) (below-at t) below.Post
-below-seen-requires t c κs =
-    let s = c .before .before .before .before .before .before .before .before .before .before .before .before .before in
-    let a = s .args in
-    let p = s .pre .1 in
-    let x = c .before .before .before .before .before .before .before .row-at in
-    (omega arith, (p .0, (p .1 .0 .1, (p .1 .1 .0, alone-room (a .rows .now) (a .due .now) (a .types .now) (a .count) (a .n) (a .links .now) (p .0) (a .c) (a .at) (p .1 .0 .0) (p .1 .0 .1) (p .1 .1 .1) (x .result) (x .ensures)))))
+  seen-below t,
+  seen.Post,
+) (below-at t) below.Post below-Inv-loop below-μ-loop
+below-last-below-requires t c κs =
+    let p = c .before .before .before .before .before .pre .1 in
+    (omega (arith, p .0 .standing .few, p .1 .0 .0), p .0 .linked .long)
 
-below-wire-list-requires : (t : ℕ) → below-lts.Need-wire-list-requires (
-  row-at-reads.Asked,
-  row-at-reads.Learnt,
-  next-beside-reads.Asked,
-  next-beside-reads.Learnt,
-  seen-below t,
-  seen.Post,
-  wire-list-reads.Asked,
-  wire-list-reads.Learnt,
-  below-below t,
-  below.Post,
+below-wire-row-requires : (t : ℕ) → below-lts.Need-wire-row-requires (
+  last-below-reads.Asked,
+  last-below-reads.Learnt,
+  wire-row-reads.Asked,
+  wire-row-reads.Learnt,
+  previous-beside-reads.Asked,
+  previous-beside-reads.Learnt,
+  start-reads.Asked,
+  start-reads.Learnt,
+  put-site-reads.Asked,
+  put-site-reads.Learnt,
   hang-reads.Asked,
   hang-reads.Learnt,
-) (below-at t) below.Post
-below-wire-list-requires t c κs =
-    let s = c .before .before .before .before .before .before .before .before .before .before .before .before .before .before .before .before .before .before .before .before .before .before in
-    let a = s .args in
-    let p = s .pre .1 in
-    let x = c .before .before .before .before .before .before .before .before .before .before .before .before .before .before .before .before .row-at in
-    let y = c .before .before .before .before .before .before .before .before .before .before .before .before .before .next-beside in
-    let o = c .before .before .before .before .before .before .before .before .seen in
-    let r₁ : Room (o .last .1 .1 .1 .1 .1 .0) (o .last .1 .1 .1 .1 .1 .1 .0) (o .last .1 .1 .1 .1 .1 .1 .1 .0) = room-kept _ _ _ (p .1 .1 .0) (c .before .before .before .before .before .before .before .loads .given) (c .before .before .before .before .before .times .given) (c .before .before .before .before .words .given) in
-    let long = room-run workRoom r₁ (omega arith) in
-    let h = last-wired (a .rows .now) (a .due .now) (a .types .now) (a .count) (a .n) (a .links .now) (p .0) (a .c) (a .at) (p .1 .0 .0) (p .1 .0 .1) (p .1 .1 .1) (x .result) (x .ensures) (y .result) (y .ensures) (c .before .before .before .before .before .before .before .before .before .before .before .before .if1 .taken) (run (a .loads .now) (a .times .now) (a .words .now)) (run (o .last .1 .1 .1 .1 .1 .0) (o .last .1 .1 .1 .1 .1 .1 .0) (o .last .1 .1 .1 .1 .1 .1 .1 .0)) long (o .result) (o .ensures) in
-    (r₁, (wired-stand h, (ohms-in (a .rows .now) (a .due .now) (a .types .now) (a .count) (a .n) (a .links .now) (p .0) (a .c) (a .at) (p .1 .0 .0) (p .1 .0 .1) (p .1 .1 .1) (x .result) (x .ensures), h .behind-fit)))
+  seen-below t,
+  seen.Post,
+) (below-at t) below.Post below-Inv-loop below-μ-loop
+below-wire-row-requires t c κs =
+    let a = c .before .before .before .before .before .before .before .before .before .args in
+    let p = c .before .before .before .before .before .before .before .before .before .pre .1 in
+    let y = c .before .before .before .last-below in
+    let w = run (a .loads .now) (a .times .now) (a .words .now) in
+    let h : y .result < a .n = rw (y .ensures) (p .1 .0 .1) in
+    let o : Made (repeatersFrom (a .types .now) 0 (a .count)) (seenAt (rowsFrom (a .rows .now) (a .due .now) 0 (a .n)) (y .result)) w w (a .at) (a .len) = rw (y .ensures) (p .1 .1 .1 .1) in
+    (row-there (a .rows .now) (a .due .now) (a .types .now) (a .count) (a .n) (a .links .now) (p .0) (y .result) h, (p .1 .1 .0, (ohms-in (a .rows .now) (a .due .now) (a .types .now) (a .count) (a .n) (a .links .now) (p .0) (y .result) h, wire-ready (a .rows .now) (a .due .now) (a .types .now) (a .count) (a .n) (a .links .now) (p .0) (a .p) (a .at) (p .1 .0 .0) (p .1 .1 .1 .0) (y .result) (y .ensures) h w (room-run workRoom (p .1 .1 .0) (omega arith)) (a .len) o)))
+
+below-loop-holds : (t : ℕ) → below-lts.Need-loop-holds (
+  last-below-reads.Asked,
+  last-below-reads.Learnt,
+  wire-row-reads.Asked,
+  wire-row-reads.Learnt,
+  previous-beside-reads.Asked,
+  previous-beside-reads.Learnt,
+  start-reads.Asked,
+  start-reads.Learnt,
+  put-site-reads.Asked,
+  put-site-reads.Learnt,
+  hang-reads.Asked,
+  hang-reads.Learnt,
+  seen-below t,
+  seen.Post,
+) (below-at t) below.Post below-Inv-loop below-μ-loop
+below-loop-holds t c =
+    let a = c .before .before .before .before .before .before .before .before .before .before .before .before .before .before .before .args in
+    let p = c .before .before .before .before .before .before .before .before .before .before .before .before .before .before .before .pre .1 in
+    let y = c .before .before .before .before .before .before .before .before .before .last-below in
+    let g = c .before .before .before .before .before .wire-row in
+    let w = run (a .loads .now) (a .times .now) (a .words .now) in
+    let h : y .result < a .n = rw (y .ensures) (p .1 .0 .1) in
+    let o : Made (repeatersFrom (a .types .now) 0 (a .count)) (seenAt (rowsFrom (a .rows .now) (a .due .now) 0 (a .n)) (y .result)) w w (a .at) (a .len) = rw (y .ensures) (p .1 .1 .1 .1) in
+    let s = wire-made (a .rows .now) (a .due .now) (a .types .now) (a .count) (a .n) (a .links .now) (p .0) (a .p) (a .at) (p .1 .0 .0) (p .1 .1 .1 .0) (y .result) (y .ensures) h w (room-run workRoom (p .1 .1 .0) (omega arith)) (a .len) o (run (g .last .1 .1 .0) (g .last .1 .1 .1 .0) (g .last .1 .1 .1 .1 .0)) (g .result) (g .ensures) in
+    (room-kept _ _ _ (p .1 .1 .0) (c .before .before .before .before .loads .given) (c .before .before .times .given) (c .before .words .given), (siblings-here s, record { loads = refl; times = refl; words = refl }))
+
+below-previous-beside-requires : (t : ℕ) → below-lts.Need-previous-beside-requires (
+  last-below-reads.Asked,
+  last-below-reads.Learnt,
+  wire-row-reads.Asked,
+  wire-row-reads.Learnt,
+  previous-beside-reads.Asked,
+  previous-beside-reads.Learnt,
+  start-reads.Asked,
+  start-reads.Learnt,
+  put-site-reads.Asked,
+  put-site-reads.Learnt,
+  hang-reads.Asked,
+  hang-reads.Learnt,
+  seen-below t,
+  seen.Post,
+) (below-at t) below.Post below-Inv-loop below-μ-loop
+below-previous-beside-requires t c κs =
+    let a = c .before .before .before .before .before .before .before .before .before .before .before .before .before .before .before .before .args in
+    let p = c .before .before .before .before .before .before .before .before .before .before .before .before .before .before .before .before .pre .1 in
+    let l = c .loop in
+    (omega (arith, p .0 .standing .few, sibling-inside (a .rows .now) (a .due .now) (a .types .now) (a .count) (a .n) (a .links .now) (p .0) (a .p) (l .c) (l .m) (a .at) _ _ (l .inv .1 .0)), p .0 .linked .long)
 
 below-same-length : (t : ℕ) → below-lts.Need-same-length (
-  row-at-reads.Asked,
-  row-at-reads.Learnt,
-  next-beside-reads.Asked,
-  next-beside-reads.Learnt,
-  seen-below t,
-  seen.Post,
-  wire-list-reads.Asked,
-  wire-list-reads.Learnt,
-  below-below t,
-  below.Post,
+  last-below-reads.Asked,
+  last-below-reads.Learnt,
+  wire-row-reads.Asked,
+  wire-row-reads.Learnt,
+  previous-beside-reads.Asked,
+  previous-beside-reads.Learnt,
+  start-reads.Asked,
+  start-reads.Learnt,
+  put-site-reads.Asked,
+  put-site-reads.Learnt,
   hang-reads.Asked,
   hang-reads.Learnt,
-) (below-at t) below.Post
-below-same-length t c = c .before .before .before .before .loads2 .given ∙ c .before .before .before .before .before .before .before .before .before .before .before .before .before .loads .given
+  seen-below t,
+  seen.Post,
+) (below-at t) below.Post below-Inv-loop below-μ-loop
+below-same-length t c = c .before .before .loop .inv .1 .1 .loads ∙ c .before .before .before .before .before .before .before .loads .given
 
 below-same-length-2 : (t : ℕ) → below-lts.Need-same-length-2 (
-  row-at-reads.Asked,
-  row-at-reads.Learnt,
-  next-beside-reads.Asked,
-  next-beside-reads.Learnt,
-  seen-below t,
-  seen.Post,
-  wire-list-reads.Asked,
-  wire-list-reads.Learnt,
-  below-below t,
-  below.Post,
+  last-below-reads.Asked,
+  last-below-reads.Learnt,
+  wire-row-reads.Asked,
+  wire-row-reads.Learnt,
+  previous-beside-reads.Asked,
+  previous-beside-reads.Learnt,
+  start-reads.Asked,
+  start-reads.Learnt,
+  put-site-reads.Asked,
+  put-site-reads.Learnt,
   hang-reads.Asked,
   hang-reads.Learnt,
-) (below-at t) below.Post
-below-same-length-2 t c = c .before .before .times2 .given ∙ c .before .before .before .before .before .before .before .before .before .before .before .times .given
+  seen-below t,
+  seen.Post,
+) (below-at t) below.Post below-Inv-loop below-μ-loop
+below-same-length-2 t c = c .before .before .loop .inv .1 .1 .times ∙ c .before .before .before .before .before .times .given
 
 below-same-length-3 : (t : ℕ) → below-lts.Need-same-length-3 (
-  row-at-reads.Asked,
-  row-at-reads.Learnt,
-  next-beside-reads.Asked,
-  next-beside-reads.Learnt,
-  seen-below t,
-  seen.Post,
-  wire-list-reads.Asked,
-  wire-list-reads.Learnt,
-  below-below t,
-  below.Post,
+  last-below-reads.Asked,
+  last-below-reads.Learnt,
+  wire-row-reads.Asked,
+  wire-row-reads.Learnt,
+  previous-beside-reads.Asked,
+  previous-beside-reads.Learnt,
+  start-reads.Asked,
+  start-reads.Learnt,
+  put-site-reads.Asked,
+  put-site-reads.Learnt,
   hang-reads.Asked,
   hang-reads.Learnt,
-) (below-at t) below.Post
-below-same-length-3 t c = c .before .words2 .given ∙ c .before .before .before .before .before .before .before .before .before .before .words .given
+  seen-below t,
+  seen.Post,
+) (below-at t) below.Post below-Inv-loop below-μ-loop
+below-same-length-3 t c = c .before .before .loop .inv .1 .1 .words ∙ c .before .before .before .before .words .given
 
 below-returns : (t : ℕ) → below-lts.Need-returns (
-  row-at-reads.Asked,
-  row-at-reads.Learnt,
-  next-beside-reads.Asked,
-  next-beside-reads.Learnt,
-  seen-below t,
-  seen.Post,
-  wire-list-reads.Asked,
-  wire-list-reads.Learnt,
-  below-below t,
-  below.Post,
+  last-below-reads.Asked,
+  last-below-reads.Learnt,
+  wire-row-reads.Asked,
+  wire-row-reads.Learnt,
+  previous-beside-reads.Asked,
+  previous-beside-reads.Learnt,
+  start-reads.Asked,
+  start-reads.Learnt,
+  put-site-reads.Asked,
+  put-site-reads.Learnt,
   hang-reads.Asked,
   hang-reads.Learnt,
-) (below-at t) below.Post
+  seen-below t,
+  seen.Post,
+) (below-at t) below.Post below-Inv-loop below-μ-loop
 below-returns t c =
-    let s = c .before .before .before .before .before .before .before .before .before .before .before .before .before .before .before .before .before .before .before .before .before .before .before .before .before .before .before .before in
-    let a = s .args in
-    let p = s .pre .1 in
-    let x = c .before .before .before .before .before .before .before .before .before .before .before .before .before .before .before .before .before .before .before .before .before .before .row-at in
-    let y = c .before .before .before .before .before .before .before .before .before .before .before .before .before .before .before .before .before .before .before .next-beside in
-    let o = c .before .before .before .before .before .before .before .before .before .before .before .before .before .before .seen in
-    let r₁ : Room (o .last .1 .1 .1 .1 .1 .0) (o .last .1 .1 .1 .1 .1 .1 .0) (o .last .1 .1 .1 .1 .1 .1 .1 .0) = room-kept _ _ _ (p .1 .1 .0) (c .before .before .before .before .before .before .before .before .before .before .before .before .before .loads .given) (c .before .before .before .before .before .before .before .before .before .before .before .times .given) (c .before .before .before .before .before .before .before .before .before .before .words .given) in
-    let long = room-run workRoom r₁ (omega arith) in
-    let u = c .before .before .before .before .before .wire-list in
-    last-made (a .rows .now) (a .due .now) (a .types .now) (a .count) (a .n) (a .links .now) (p .0) (a .c) (a .at) (p .1 .0 .0) (p .1 .0 .1) (p .1 .1 .1) (x .result) (x .ensures) (y .result) (y .ensures) (c .before .before .before .before .before .before .before .before .before .before .before .before .before .before .before .before .before .before .if1 .taken) (run (a .loads .now) (a .times .now) (a .words .now)) (run (o .last .1 .1 .1 .1 .1 .0) (o .last .1 .1 .1 .1 .1 .1 .0) (o .last .1 .1 .1 .1 .1 .1 .1 .0)) long (o .result) (o .ensures) (run (u .last .0) (u .last .1 .0) (u .last .1 .1 .0)) (u .result) (u .ensures)
+    let a = c .before .before .before .before .before .before .before .before .before .before .before .before .before .before .before .before .before .before .args in
+    let p = c .before .before .before .before .before .before .before .before .before .before .before .before .before .before .before .before .before .before .pre .1 in
+    let l = c .before .before .loop in
+    let y = c .before .previous-beside in
+    made-since (run (a .loads .now) (a .times .now) (a .words .now)) (c .before .before .before .before .before .before .before .before .wire-row .ensures .before) (siblings-made (a .rows .now) (a .due .now) (a .types .now) (a .count) (a .n) (a .links .now) (p .0) (a .p) (a .at) (p .1 .0 .0) (p .1 .1 .1 .0) (l .c) _ _ (l .m) (l .inv .1 .0) (y .result) (y .ensures) (c .if1 .taken))
 
-below-below-requires : (t : ℕ) → below-lts.Need-below-requires (
-  row-at-reads.Asked,
-  row-at-reads.Learnt,
-  next-beside-reads.Asked,
-  next-beside-reads.Learnt,
-  seen-below t,
-  seen.Post,
-  wire-list-reads.Asked,
-  wire-list-reads.Learnt,
-  below-below t,
-  below.Post,
+below-last-below-requires-2 : (t : ℕ) → below-lts.Need-last-below-requires-2 (
+  last-below-reads.Asked,
+  last-below-reads.Learnt,
+  wire-row-reads.Asked,
+  wire-row-reads.Learnt,
+  previous-beside-reads.Asked,
+  previous-beside-reads.Learnt,
+  start-reads.Asked,
+  start-reads.Learnt,
+  put-site-reads.Asked,
+  put-site-reads.Learnt,
   hang-reads.Asked,
   hang-reads.Learnt,
-) (below-at t) below.Post
-below-below-requires t c κs =
-    let s = c .before .before .before .before .before .before .before .before .before .before .before .before .before in
-    let a = s .args in
-    let p = s .pre .1 in
-    let x = c .before .before .before .before .before .before .before .row-at in
-    let y = c .before .before .before .before .next-beside in
-    let f = next-after (a .rows .now) (a .due .now) (a .types .now) (a .count) (a .n) (a .links .now) (p .0) (a .c) (a .at) (p .1 .0 .0) (p .1 .0 .1) (p .1 .1 .1) (x .result) (x .ensures) (y .result) (y .ensures) in
-    (omega (arith, f, c .before .before .before .if1 .left), (p .0, ((omega (arith, f), omega (arith, f, c .before .before .before .if1 .left)), (p .1 .1 .0, next-room (a .rows .now) (a .due .now) (a .types .now) (a .count) (a .n) (a .links .now) (p .0) (a .c) (a .at) (p .1 .0 .0) (p .1 .0 .1) (p .1 .1 .1) (x .result) (x .ensures) (y .result) (y .ensures)))))
-
-below-add-seen : (t : ℕ) → below-lts.Need-add-seen (
-  row-at-reads.Asked,
-  row-at-reads.Learnt,
-  next-beside-reads.Asked,
-  next-beside-reads.Learnt,
   seen-below t,
   seen.Post,
-  wire-list-reads.Asked,
-  wire-list-reads.Learnt,
-  below-below t,
-  below.Post,
+) (below-at t) below.Post below-Inv-loop below-μ-loop
+below-last-below-requires-2 t c κs =
+    let a = c .before .before .before .before .before .before .before .before .before .before .before .before .before .before .before .before .before .before .args in
+    let p = c .before .before .before .before .before .before .before .before .before .before .before .before .before .before .before .before .before .before .pre .1 in
+    let l = c .before .before .loop in
+    let y = c .before .previous-beside in
+    let w = run (l .loads) (l .times) (l .words) in
+    (omega (arith, p .0 .standing .few, sibling-more (a .rows .now) (a .due .now) (a .types .now) (a .count) (a .n) (a .links .now) (p .0) (a .p) (a .at) (p .1 .0 .0) (p .1 .1 .1 .0) (l .c) _ w (l .m) (l .inv .1 .0) (y .result) (y .ensures) (c .if1 .left)), p .0 .linked .long)
+
+below-add-start : (t : ℕ) → below-lts.Need-add-start (
+  last-below-reads.Asked,
+  last-below-reads.Learnt,
+  wire-row-reads.Asked,
+  wire-row-reads.Learnt,
+  previous-beside-reads.Asked,
+  previous-beside-reads.Learnt,
+  start-reads.Asked,
+  start-reads.Learnt,
+  put-site-reads.Asked,
+  put-site-reads.Learnt,
   hang-reads.Asked,
   hang-reads.Learnt,
-) (below-at t) below.Post
-below-add-seen t c = omega (arith, c .before .before .before .before .before .before .before .before .below .ensures .fits)
-
-below-seen-requires-2 : (t : ℕ) → below-lts.Need-seen-requires-2 (
-  row-at-reads.Asked,
-  row-at-reads.Learnt,
-  next-beside-reads.Asked,
-  next-beside-reads.Learnt,
   seen-below t,
   seen.Post,
-  wire-list-reads.Asked,
-  wire-list-reads.Learnt,
-  below-below t,
-  below.Post,
+) (below-at t) below.Post below-Inv-loop below-μ-loop
+below-add-start t c = omega (arith, c .before .before .before .before .before .before .before .loop .inv .1 .0 .made .fits)
+
+below-start-requires : (t : ℕ) → below-lts.Need-start-requires (
+  last-below-reads.Asked,
+  last-below-reads.Learnt,
+  wire-row-reads.Asked,
+  wire-row-reads.Learnt,
+  previous-beside-reads.Asked,
+  previous-beside-reads.Learnt,
+  start-reads.Asked,
+  start-reads.Learnt,
+  put-site-reads.Asked,
+  put-site-reads.Learnt,
   hang-reads.Asked,
   hang-reads.Learnt,
-) (below-at t) below.Post
-below-seen-requires-2 t c κs =
-    let s = c .before .before .before .before .before .before .before .before .before .before .before .before .before .before .before .before .before .before .before .before .before .before in
-    let a = s .args in
-    let p = s .pre .1 in
-    let x = c .before .before .before .before .before .before .before .before .before .before .before .before .before .before .before .before .row-at in
-    let y = c .before .before .before .before .before .before .before .before .before .before .before .before .before .next-beside in
-    let b = c .before .before .before .before .before .before .before .before .below in
-    let r₁ : Room (b .last .1 .1 .1 .1 .1 .0) (b .last .1 .1 .1 .1 .1 .1 .0) (b .last .1 .1 .1 .1 .1 .1 .1 .0) = room-kept _ _ _ (p .1 .1 .0) (c .before .before .before .before .before .before .before .loads3 .given) (c .before .before .before .before .before .times3 .given) (c .before .before .before .before .words3 .given) in
-    let long₁ = room-run workRoom r₁ (omega arith) in
-    (omega arith, (p .0, (p .1 .0 .1, (r₁, behind-room (a .rows .now) (a .due .now) (a .types .now) (a .count) (a .n) (a .links .now) (p .0) (a .c) (a .at) (p .1 .0 .0) (p .1 .0 .1) (p .1 .1 .1) (x .result) (x .ensures) (y .result) (y .ensures) (c .before .before .before .before .before .before .before .before .before .before .before .before .if1 .left) (run (a .loads .now) (a .times .now) (a .words .now)) (run (b .last .1 .1 .1 .1 .1 .0) (b .last .1 .1 .1 .1 .1 .1 .0) (b .last .1 .1 .1 .1 .1 .1 .1 .0)) long₁ (b .result) (b .ensures)))))
+  seen-below t,
+  seen.Post,
+) (below-at t) below.Post below-Inv-loop below-μ-loop
+below-start-requires t c κs =
+    let a = c .before .before .before .before .before .before .before .before .before .before .before .before .before .before .before .before .before .before .before .before .before .before .before .args in
+    let p = c .before .before .before .before .before .before .before .before .before .before .before .before .before .before .before .before .before .before .before .before .before .before .before .pre .1 in
+    let l = c .before .before .before .before .before .before .before .loop in
+    let y = c .before .before .before .before .before .before .previous-beside in
+    let w = run (l .loads) (l .times) (l .words) in
+    let long = room-run workRoom (l .inv .0) (omega arith) in
+    let h = sibling-more (a .rows .now) (a .due .now) (a .types .now) (a .count) (a .n) (a .links .now) (p .0) (a .p) (a .at) (p .1 .0 .0) (p .1 .1 .1 .0) (l .c) _ w (l .m) (l .inv .1 .0) (y .result) (y .ensures) (c .before .before .before .before .before .if1 .left) in
+    let g = sibling-room (a .rows .now) (a .due .now) (a .types .now) (a .count) (a .n) (a .links .now) (p .0) (a .p) (a .at) (p .1 .0 .0) (p .1 .1 .1 .0) (l .c) _ w (l .m) (l .inv .1 .0) (y .result) (y .ensures) (c .before .before .before .before .before .if1 .left) long in
+    (row-there (a .rows .now) (a .due .now) (a .types .now) (a .count) (a .n) (a .links .now) (p .0) (y .result) h, (l .inv .0, start-fits (a .rows .now) (a .due .now) (a .types .now) (a .count) (a .n) (a .links .now) (p .0) (y .result) (a .at + l .m) h g (y .result) (here refl)))
+
+below-add-put-site : (t : ℕ) → below-lts.Need-add-put-site (
+  last-below-reads.Asked,
+  last-below-reads.Learnt,
+  wire-row-reads.Asked,
+  wire-row-reads.Learnt,
+  previous-beside-reads.Asked,
+  previous-beside-reads.Learnt,
+  start-reads.Asked,
+  start-reads.Learnt,
+  put-site-reads.Asked,
+  put-site-reads.Learnt,
+  hang-reads.Asked,
+  hang-reads.Learnt,
+  seen-below t,
+  seen.Post,
+) (below-at t) below.Post below-Inv-loop below-μ-loop
+below-add-put-site t c = omega (arith, c .before .before .before .before .before .before .before .before .before .before .before .before .before .before .before .before .loop .inv .1 .0 .made .fits)
+
+below-put-site-requires : (t : ℕ) → below-lts.Need-put-site-requires (
+  last-below-reads.Asked,
+  last-below-reads.Learnt,
+  wire-row-reads.Asked,
+  wire-row-reads.Learnt,
+  previous-beside-reads.Asked,
+  previous-beside-reads.Learnt,
+  start-reads.Asked,
+  start-reads.Learnt,
+  put-site-reads.Asked,
+  put-site-reads.Learnt,
+  hang-reads.Asked,
+  hang-reads.Learnt,
+  seen-below t,
+  seen.Post,
+) (below-at t) below.Post below-Inv-loop below-μ-loop
+below-put-site-requires t c κs =
+    let a = c .before .before .before .before .before .before .before .before .before .before .before .before .before .before .before .before .before .before .before .before .before .before .before .before .before .before .before .before .before .before .before .before .args in
+    let p = c .before .before .before .before .before .before .before .before .before .before .before .before .before .before .before .before .before .before .before .before .before .before .before .before .before .before .before .before .before .before .before .before .pre .1 in
+    let l = c .before .before .before .before .before .before .before .before .before .before .before .before .before .before .before .before .loop in
+    let y = c .before .before .before .before .before .before .before .before .before .before .before .before .before .before .before .previous-beside in
+    let w = run (l .loads) (l .times) (l .words) in
+    let long = room-run workRoom (l .inv .0) (omega arith) in
+    let h = sibling-more (a .rows .now) (a .due .now) (a .types .now) (a .count) (a .n) (a .links .now) (p .0) (a .p) (a .at) (p .1 .0 .0) (p .1 .1 .1 .0) (l .c) _ w (l .m) (l .inv .1 .0) (y .result) (y .ensures) (c .before .before .before .before .before .before .before .before .before .before .before .before .before .before .if1 .left) in
+    let g = sibling-room (a .rows .now) (a .due .now) (a .types .now) (a .count) (a .n) (a .links .now) (p .0) (a .p) (a .at) (p .1 .0 .0) (p .1 .1 .1 .0) (l .c) _ w (l .m) (l .inv .1 .0) (y .result) (y .ensures) (c .before .before .before .before .before .before .before .before .before .before .before .before .before .before .if1 .left) long in
+    let e : getD (a .links .now) (y .result) 0 ≡ a .n = sym (c .before .before .before .before .before .before .before .before .before .before .before .before .before .last-below2 .ensures) ∙ c .before .before .before .before .before .before .before .before .before .before .before .before .if2 .taken in
+    let u = c .before .before .before .before .before .before .before .before .start in
+    let w₁ = run (u .last .1 .1 .0) (u .last .1 .1 .1 .0) (u .last .1 .1 .1 .1 .0) in
+    let r₁ : Room (u .last .1 .1 .0) (u .last .1 .1 .1 .0) (u .last .1 .1 .1 .1 .0) = room-kept _ _ _ (l .inv .0) (c .before .before .before .before .before .before .before .loads2 .given) (c .before .before .before .before .before .times2 .given) (c .before .before .before .before .words2 .given) in
+    let d = started (a .rows .now) (a .due .now) (a .types .now) (a .count) (a .n) (a .links .now) (p .0) (y .result) (a .at + l .m) h g (y .result) (here refl) w w₁ long e (u .ensures) in
+    (row-there (a .rows .now) (a .due .now) (a .types .now) (a .count) (a .n) (a .links .now) (p .0) (y .result) h, (typed (a .rows .now) (a .due .now) (a .types .now) (a .count) (a .n) (a .links .now) (p .0), (p .0 .linked .long, (r₁, driven-sited (a .rows .now) (a .due .now) (a .types .now) (a .count) (a .n) (a .links .now) (p .0) (y .result) (a .at + l .m) h g (y .result) (here refl) w w₁ 1 d))))
 
 below-hang-requires : (t : ℕ) → below-lts.Need-hang-requires (
-  row-at-reads.Asked,
-  row-at-reads.Learnt,
-  next-beside-reads.Asked,
-  next-beside-reads.Learnt,
-  seen-below t,
-  seen.Post,
-  wire-list-reads.Asked,
-  wire-list-reads.Learnt,
-  below-below t,
-  below.Post,
+  last-below-reads.Asked,
+  last-below-reads.Learnt,
+  wire-row-reads.Asked,
+  wire-row-reads.Learnt,
+  previous-beside-reads.Asked,
+  previous-beside-reads.Learnt,
+  start-reads.Asked,
+  start-reads.Learnt,
+  put-site-reads.Asked,
+  put-site-reads.Learnt,
   hang-reads.Asked,
   hang-reads.Learnt,
-) (below-at t) below.Post
+  seen-below t,
+  seen.Post,
+) (below-at t) below.Post below-Inv-loop below-μ-loop
 below-hang-requires t c κs =
-    let s = c .before .before .before .before .before .before .before .before .before .before .before .before .before .before .before .before .before .before .before .before .before .before .before .before .before .before .before .before .before .before .before in
-    let a = s .args in
-    let p = s .pre .1 in
-    let x = c .before .before .before .before .before .before .before .before .before .before .before .before .before .before .before .before .before .before .before .before .before .before .before .before .before .row-at in
-    let y = c .before .before .before .before .before .before .before .before .before .before .before .before .before .before .before .before .before .before .before .before .before .before .next-beside in
-    let b = c .before .before .before .before .before .before .before .before .before .before .before .before .before .before .before .before .before .below in
-    let r₁ : Room (b .last .1 .1 .1 .1 .1 .0) (b .last .1 .1 .1 .1 .1 .1 .0) (b .last .1 .1 .1 .1 .1 .1 .1 .0) = room-kept _ _ _ (p .1 .1 .0) (c .before .before .before .before .before .before .before .before .before .before .before .before .before .before .before .before .loads3 .given) (c .before .before .before .before .before .before .before .before .before .before .before .before .before .before .times3 .given) (c .before .before .before .before .before .before .before .before .before .before .before .before .before .words3 .given) in
-    let long₁ = room-run workRoom r₁ (omega arith) in
-    let o = c .before .before .before .before .before .before .before .before .seen2 in
-    let r₂ : Room (o .last .1 .1 .1 .1 .1 .0) (o .last .1 .1 .1 .1 .1 .1 .0) (o .last .1 .1 .1 .1 .1 .1 .1 .0) = room-kept _ _ _ r₁ (c .before .before .before .before .before .before .before .loads4 .given) (c .before .before .before .before .before .times4 .given) (c .before .before .before .before .words4 .given) in
-    let long₂ = room-run workRoom r₂ (omega arith) in
-    (r₂, (ohms-in (a .rows .now) (a .due .now) (a .types .now) (a .count) (a .n) (a .links .now) (p .0) (a .c) (a .at) (p .1 .0 .0) (p .1 .0 .1) (p .1 .1 .1) (x .result) (x .ensures), both-hang (a .rows .now) (a .due .now) (a .types .now) (a .count) (a .n) (a .links .now) (p .0) (a .c) (a .at) (p .1 .0 .0) (p .1 .0 .1) (p .1 .1 .1) (x .result) (x .ensures) (y .result) (y .ensures) (c .before .before .before .before .before .before .before .before .before .before .before .before .before .before .before .before .before .before .before .before .before .if1 .left) (run (a .loads .now) (a .times .now) (a .words .now)) (run (b .last .1 .1 .1 .1 .1 .0) (b .last .1 .1 .1 .1 .1 .1 .0) (b .last .1 .1 .1 .1 .1 .1 .1 .0)) long₁ (b .result) (b .ensures) (run (o .last .1 .1 .1 .1 .1 .0) (o .last .1 .1 .1 .1 .1 .1 .0) (o .last .1 .1 .1 .1 .1 .1 .1 .0)) long₂ (o .result) (o .ensures)))
+    let a = c .before .before .before .before .before .before .before .before .before .before .before .before .before .before .before .before .before .before .before .before .before .before .before .before .before .before .before .before .before .before .before .before .before .before .before .before .before .before .before .before .before .args in
+    let p = c .before .before .before .before .before .before .before .before .before .before .before .before .before .before .before .before .before .before .before .before .before .before .before .before .before .before .before .before .before .before .before .before .before .before .before .before .before .before .before .before .before .pre .1 in
+    let l = c .before .before .before .before .before .before .before .before .before .before .before .before .before .before .before .before .before .before .before .before .before .before .before .before .before .loop in
+    let y = c .before .before .before .before .before .before .before .before .before .before .before .before .before .before .before .before .before .before .before .before .before .before .before .before .previous-beside in
+    let w = run (l .loads) (l .times) (l .words) in
+    let long = room-run workRoom (l .inv .0) (omega arith) in
+    let h = sibling-more (a .rows .now) (a .due .now) (a .types .now) (a .count) (a .n) (a .links .now) (p .0) (a .p) (a .at) (p .1 .0 .0) (p .1 .1 .1 .0) (l .c) _ w (l .m) (l .inv .1 .0) (y .result) (y .ensures) (c .before .before .before .before .before .before .before .before .before .before .before .before .before .before .before .before .before .before .before .before .before .before .before .if1 .left) in
+    let g = sibling-room (a .rows .now) (a .due .now) (a .types .now) (a .count) (a .n) (a .links .now) (p .0) (a .p) (a .at) (p .1 .0 .0) (p .1 .1 .1 .0) (l .c) _ w (l .m) (l .inv .1 .0) (y .result) (y .ensures) (c .before .before .before .before .before .before .before .before .before .before .before .before .before .before .before .before .before .before .before .before .before .before .before .if1 .left) long in
+    let e : getD (a .links .now) (y .result) 0 ≡ a .n = sym (c .before .before .before .before .before .before .before .before .before .before .before .before .before .before .before .before .before .before .before .before .before .before .last-below2 .ensures) ∙ c .before .before .before .before .before .before .before .before .before .before .before .before .before .before .before .before .before .before .before .before .before .if2 .taken in
+    let u = c .before .before .before .before .before .before .before .before .before .before .before .before .before .before .before .before .before .start in
+    let w₁ = run (u .last .1 .1 .0) (u .last .1 .1 .1 .0) (u .last .1 .1 .1 .1 .0) in
+    let r₁ : Room (u .last .1 .1 .0) (u .last .1 .1 .1 .0) (u .last .1 .1 .1 .1 .0) = room-kept _ _ _ (l .inv .0) (c .before .before .before .before .before .before .before .before .before .before .before .before .before .before .before .before .loads2 .given) (c .before .before .before .before .before .before .before .before .before .before .before .before .before .before .times2 .given) (c .before .before .before .before .before .before .before .before .before .before .before .before .before .words2 .given) in
+    let d = started (a .rows .now) (a .due .now) (a .types .now) (a .count) (a .n) (a .links .now) (p .0) (y .result) (a .at + l .m) h g (y .result) (here refl) w w₁ long e (u .ensures) in
+    let v = c .before .before .before .before .before .before .before .before .put-site in
+    let w₂ = run (v .last .1 .1 .1 .1 .1 .0) (v .last .1 .1 .1 .1 .1 .1 .0) (v .last .1 .1 .1 .1 .1 .1 .1 .0) in
+    let r₂ : Room (v .last .1 .1 .1 .1 .1 .0) (v .last .1 .1 .1 .1 .1 .1 .0) (v .last .1 .1 .1 .1 .1 .1 .1 .0) = room-kept _ _ _ r₁ (c .before .before .before .before .before .before .before .loads3 .given) (c .before .before .before .before .before .times3 .given) (c .before .before .before .before .words3 .given) in
+    let o = site-made (a .rows .now) (a .due .now) (a .types .now) (a .count) (a .n) (a .links .now) (p .0) (y .result) (a .at + l .m) h g (y .result) (here refl) w w₁ 1 d w₂ (v .result) (v .ensures) in
+    (row-there (a .rows .now) (a .due .now) (a .types .now) (a .count) (a .n) (a .links .now) (p .0) (y .result) h, (r₂, (ohms-in (a .rows .now) (a .due .now) (a .types .now) (a .count) (a .n) (a .links .now) (p .0) (y .result) h, sibling-hang (a .rows .now) (a .due .now) (a .types .now) (a .count) (a .n) (a .links .now) (p .0) (a .p) (a .at) (p .1 .0 .0) (p .1 .1 .1 .0) (l .c) _ w (l .m) (l .inv .1 .0) (y .result) (y .ensures) (c .before .before .before .before .before .before .before .before .before .before .before .before .before .before .before .before .before .before .before .before .before .before .before .if1 .left) long w₂ (room-run workRoom r₂ (omega arith)) (v .result) o)))
 
-below-same-length-4 : (t : ℕ) → below-lts.Need-same-length-4 (
-  row-at-reads.Asked,
-  row-at-reads.Learnt,
-  next-beside-reads.Asked,
-  next-beside-reads.Learnt,
-  seen-below t,
-  seen.Post,
-  wire-list-reads.Asked,
-  wire-list-reads.Learnt,
-  below-below t,
-  below.Post,
-  hang-reads.Asked,
-  hang-reads.Learnt,
-) (below-at t) below.Post
-below-same-length-4 t c = c .before .before .before .before .loads5 .given ∙ c .before .before .before .before .before .before .before .before .before .before .before .before .before .loads4 .given ∙ c .before .before .before .before .before .before .before .before .before .before .before .before .before .before .before .before .before .before .before .before .before .before .loads3 .given
-
-below-same-length-5 : (t : ℕ) → below-lts.Need-same-length-5 (
-  row-at-reads.Asked,
-  row-at-reads.Learnt,
-  next-beside-reads.Asked,
-  next-beside-reads.Learnt,
-  seen-below t,
-  seen.Post,
-  wire-list-reads.Asked,
-  wire-list-reads.Learnt,
-  below-below t,
-  below.Post,
-  hang-reads.Asked,
-  hang-reads.Learnt,
-) (below-at t) below.Post
-below-same-length-5 t c = c .before .before .times5 .given ∙ c .before .before .before .before .before .before .before .before .before .before .before .times4 .given ∙ c .before .before .before .before .before .before .before .before .before .before .before .before .before .before .before .before .before .before .before .before .times3 .given
-
-below-same-length-6 : (t : ℕ) → below-lts.Need-same-length-6 (
-  row-at-reads.Asked,
-  row-at-reads.Learnt,
-  next-beside-reads.Asked,
-  next-beside-reads.Learnt,
-  seen-below t,
-  seen.Post,
-  wire-list-reads.Asked,
-  wire-list-reads.Learnt,
-  below-below t,
-  below.Post,
-  hang-reads.Asked,
-  hang-reads.Learnt,
-) (below-at t) below.Post
-below-same-length-6 t c = c .before .words5 .given ∙ c .before .before .before .before .before .before .before .before .before .before .words4 .given ∙ c .before .before .before .before .before .before .before .before .before .before .before .before .before .before .before .before .before .before .before .words3 .given
-
-below-returns-2 : (t : ℕ) → below-lts.Need-returns-2 (
-  row-at-reads.Asked,
-  row-at-reads.Learnt,
-  next-beside-reads.Asked,
-  next-beside-reads.Learnt,
-  seen-below t,
-  seen.Post,
-  wire-list-reads.Asked,
-  wire-list-reads.Learnt,
-  below-below t,
-  below.Post,
-  hang-reads.Asked,
-  hang-reads.Learnt,
-) (below-at t) below.Post
-below-returns-2 t c =
-    let s = c .before .before .before .before .before .before .before .before .before .before .before .before .before .before .before .before .before .before .before .before .before .before .before .before .before .before .before .before .before .before .before .before .before .before .before .before .before in
-    let a = s .args in
-    let p = s .pre .1 in
-    let x = c .before .before .before .before .before .before .before .before .before .before .before .before .before .before .before .before .before .before .before .before .before .before .before .before .before .before .before .before .before .before .before .row-at in
-    let y = c .before .before .before .before .before .before .before .before .before .before .before .before .before .before .before .before .before .before .before .before .before .before .before .before .before .before .before .before .next-beside in
-    let b = c .before .before .before .before .before .before .before .before .before .before .before .before .before .before .before .before .before .before .before .before .before .before .before .below in
-    let r₁ : Room (b .last .1 .1 .1 .1 .1 .0) (b .last .1 .1 .1 .1 .1 .1 .0) (b .last .1 .1 .1 .1 .1 .1 .1 .0) = room-kept _ _ _ (p .1 .1 .0) (c .before .before .before .before .before .before .before .before .before .before .before .before .before .before .before .before .before .before .before .before .before .before .loads3 .given) (c .before .before .before .before .before .before .before .before .before .before .before .before .before .before .before .before .before .before .before .before .times3 .given) (c .before .before .before .before .before .before .before .before .before .before .before .before .before .before .before .before .before .before .before .words3 .given) in
-    let long₁ = room-run workRoom r₁ (omega arith) in
-    let o = c .before .before .before .before .before .before .before .before .before .before .before .before .before .before .seen2 in
-    let r₂ : Room (o .last .1 .1 .1 .1 .1 .0) (o .last .1 .1 .1 .1 .1 .1 .0) (o .last .1 .1 .1 .1 .1 .1 .1 .0) = room-kept _ _ _ r₁ (c .before .before .before .before .before .before .before .before .before .before .before .before .before .loads4 .given) (c .before .before .before .before .before .before .before .before .before .before .before .times4 .given) (c .before .before .before .before .before .before .before .before .before .before .words4 .given) in
-    let long₂ = room-run workRoom r₂ (omega arith) in
-    let u = c .before .before .before .before .before .hang in
-    both-made (a .rows .now) (a .due .now) (a .types .now) (a .count) (a .n) (a .links .now) (p .0) (a .c) (a .at) (p .1 .0 .0) (p .1 .0 .1) (p .1 .1 .1) (x .result) (x .ensures) (y .result) (y .ensures) (c .before .before .before .before .before .before .before .before .before .before .before .before .before .before .before .before .before .before .before .before .before .before .before .before .before .before .before .if1 .left) (run (a .loads .now) (a .times .now) (a .words .now)) (run (b .last .1 .1 .1 .1 .1 .0) (b .last .1 .1 .1 .1 .1 .1 .0) (b .last .1 .1 .1 .1 .1 .1 .1 .0)) long₁ (b .result) (b .ensures) (run (o .last .1 .1 .1 .1 .1 .0) (o .last .1 .1 .1 .1 .1 .1 .0) (o .last .1 .1 .1 .1 .1 .1 .1 .0)) long₂ (o .result) (o .ensures) (run (u .last .0) (u .last .1 .0) (u .last .1 .1 .0)) (u .result) (u .ensures)
-
-seen-row-at-requires : (t : ℕ) → seen-lts.Need-row-at-requires (
-  row-at-reads.Asked,
-  row-at-reads.Learnt,
-  sites-before-reads.Asked,
-  sites-before-reads.Learnt,
+below-loop-less : (t : ℕ) → below-lts.Need-loop-less (
+  last-below-reads.Asked,
+  last-below-reads.Learnt,
+  wire-row-reads.Asked,
+  wire-row-reads.Learnt,
+  previous-beside-reads.Asked,
+  previous-beside-reads.Learnt,
   start-reads.Asked,
   start-reads.Learnt,
   put-site-reads.Asked,
   put-site-reads.Learnt,
-  first-below-reads.Asked,
-  first-below-reads.Learnt,
-  below-below t,
-  below.Post,
-) (seen-at t) seen.Post
-seen-row-at-requires t c κs =
-    let s = c .before .before .before .before .before in
-    let a = s .args in
-    let p = s .pre .1 in
-    let g = p .0 .standing in
-    omega (arith, g .few, g .rows-long, g .due-long, p .1 .0)
+  hang-reads.Asked,
+  hang-reads.Learnt,
+  seen-below t,
+  seen.Post,
+) (below-at t) below.Post below-Inv-loop below-μ-loop
+below-loop-less t c =
+    let a = c .before .before .before .before .before .before .before .before .before .before .before .before .before .before .before .before .before .before .before .before .before .before .before .before .before .before .before .before .before .before .before .before .before .before .before .before .before .before .before .before .before .before .before .before .before .before .before .args in
+    let p = c .before .before .before .before .before .before .before .before .before .before .before .before .before .before .before .before .before .before .before .before .before .before .before .before .before .before .before .before .before .before .before .before .before .before .before .before .before .before .before .before .before .before .before .before .before .before .before .pre .1 in
+    let l = c .before .before .before .before .before .before .before .before .before .before .before .before .before .before .before .before .before .before .before .before .before .before .before .before .before .before .before .before .before .before .before .loop in
+    let y = c .before .before .before .before .before .before .before .before .before .before .before .before .before .before .before .before .before .before .before .before .before .before .before .before .before .before .before .before .before .before .previous-beside in
+    sibling-earlier (a .rows .now) (a .due .now) (a .types .now) (a .count) (a .n) (a .links .now) (p .0) (a .p) (a .at) (p .1 .0 .0) (p .1 .1 .1 .0) (l .c) _ (run (l .loads) (l .times) (l .words)) (l .m) (l .inv .1 .0) (y .result) (y .ensures) (c .before .before .before .before .before .before .before .before .before .before .before .before .before .before .before .before .before .before .before .before .before .before .before .before .before .before .before .before .before .if1 .left)
 
-seen-sites-before-requires : (t : ℕ) → seen-lts.Need-sites-before-requires (
-  row-at-reads.Asked,
-  row-at-reads.Learnt,
-  sites-before-reads.Asked,
-  sites-before-reads.Learnt,
+below-loop-again : (t : ℕ) → below-lts.Need-loop-again (
+  last-below-reads.Asked,
+  last-below-reads.Learnt,
+  wire-row-reads.Asked,
+  wire-row-reads.Learnt,
+  previous-beside-reads.Asked,
+  previous-beside-reads.Learnt,
   start-reads.Asked,
   start-reads.Learnt,
   put-site-reads.Asked,
   put-site-reads.Learnt,
-  first-below-reads.Asked,
-  first-below-reads.Learnt,
+  hang-reads.Asked,
+  hang-reads.Learnt,
+  seen-below t,
+  seen.Post,
+) (below-at t) below.Post below-Inv-loop below-μ-loop
+below-loop-again t c =
+    let a = c .before .before .before .before .before .before .before .before .before .before .before .before .before .before .before .before .before .before .before .before .before .before .before .before .before .before .before .before .before .before .before .before .before .before .before .before .before .before .before .before .before .before .before .before .before .before .before .args in
+    let p = c .before .before .before .before .before .before .before .before .before .before .before .before .before .before .before .before .before .before .before .before .before .before .before .before .before .before .before .before .before .before .before .before .before .before .before .before .before .before .before .before .before .before .before .before .before .before .before .pre .1 in
+    let l = c .before .before .before .before .before .before .before .before .before .before .before .before .before .before .before .before .before .before .before .before .before .before .before .before .before .before .before .before .before .before .before .loop in
+    let y = c .before .before .before .before .before .before .before .before .before .before .before .before .before .before .before .before .before .before .before .before .before .before .before .before .before .before .before .before .before .before .previous-beside in
+    let w = run (l .loads) (l .times) (l .words) in
+    let long = room-run workRoom (l .inv .0) (omega arith) in
+    let h = sibling-more (a .rows .now) (a .due .now) (a .types .now) (a .count) (a .n) (a .links .now) (p .0) (a .p) (a .at) (p .1 .0 .0) (p .1 .1 .1 .0) (l .c) _ w (l .m) (l .inv .1 .0) (y .result) (y .ensures) (c .before .before .before .before .before .before .before .before .before .before .before .before .before .before .before .before .before .before .before .before .before .before .before .before .before .before .before .before .before .if1 .left) in
+    let g = sibling-room (a .rows .now) (a .due .now) (a .types .now) (a .count) (a .n) (a .links .now) (p .0) (a .p) (a .at) (p .1 .0 .0) (p .1 .1 .1 .0) (l .c) _ w (l .m) (l .inv .1 .0) (y .result) (y .ensures) (c .before .before .before .before .before .before .before .before .before .before .before .before .before .before .before .before .before .before .before .before .before .before .before .before .before .before .before .before .before .if1 .left) long in
+    let e : getD (a .links .now) (y .result) 0 ≡ a .n = sym (c .before .before .before .before .before .before .before .before .before .before .before .before .before .before .before .before .before .before .before .before .before .before .before .before .before .before .before .before .last-below2 .ensures) ∙ c .before .before .before .before .before .before .before .before .before .before .before .before .before .before .before .before .before .before .before .before .before .before .before .before .before .before .before .if2 .taken in
+    let u = c .before .before .before .before .before .before .before .before .before .before .before .before .before .before .before .before .before .before .before .before .before .before .before .start in
+    let w₁ = run (u .last .1 .1 .0) (u .last .1 .1 .1 .0) (u .last .1 .1 .1 .1 .0) in
+    let r₁ : Room (u .last .1 .1 .0) (u .last .1 .1 .1 .0) (u .last .1 .1 .1 .1 .0) = room-kept _ _ _ (l .inv .0) (c .before .before .before .before .before .before .before .before .before .before .before .before .before .before .before .before .before .before .before .before .before .before .loads2 .given) (c .before .before .before .before .before .before .before .before .before .before .before .before .before .before .before .before .before .before .before .before .times2 .given) (c .before .before .before .before .before .before .before .before .before .before .before .before .before .before .before .before .before .before .before .words2 .given) in
+    let d = started (a .rows .now) (a .due .now) (a .types .now) (a .count) (a .n) (a .links .now) (p .0) (y .result) (a .at + l .m) h g (y .result) (here refl) w w₁ long e (u .ensures) in
+    let v = c .before .before .before .before .before .before .before .before .before .before .before .before .before .before .put-site in
+    let w₂ = run (v .last .1 .1 .1 .1 .1 .0) (v .last .1 .1 .1 .1 .1 .1 .0) (v .last .1 .1 .1 .1 .1 .1 .1 .0) in
+    let r₂ : Room (v .last .1 .1 .1 .1 .1 .0) (v .last .1 .1 .1 .1 .1 .1 .0) (v .last .1 .1 .1 .1 .1 .1 .1 .0) = room-kept _ _ _ r₁ (c .before .before .before .before .before .before .before .before .before .before .before .before .before .loads3 .given) (c .before .before .before .before .before .before .before .before .before .before .before .times3 .given) (c .before .before .before .before .before .before .before .before .before .before .words3 .given) in
+    let o = site-made (a .rows .now) (a .due .now) (a .types .now) (a .count) (a .n) (a .links .now) (p .0) (y .result) (a .at + l .m) h g (y .result) (here refl) w w₁ 1 d w₂ (v .result) (v .ensures) in
+    let x = c .before .before .before .before .before .hang in
+    let s = sibling-made (a .rows .now) (a .due .now) (a .types .now) (a .count) (a .n) (a .links .now) (p .0) (a .p) (a .at) (p .1 .0 .0) (p .1 .1 .1 .0) (l .c) _ w (l .m) (l .inv .1 .0) (y .result) (y .ensures) (c .before .before .before .before .before .before .before .before .before .before .before .before .before .before .before .before .before .before .before .before .before .before .before .before .before .before .before .before .before .if1 .left) long w₂ (room-run workRoom r₂ (omega arith)) (v .result) o (run (x .last .1 .1 .0) (x .last .1 .1 .1 .0) (x .last .1 .1 .1 .1 .0)) (x .result) (x .ensures) in
+    let k = l .inv .1 .1 in
+    (room-kept _ _ _ r₂ (c .before .before .before .before .loads4 .given) (c .before .before .times4 .given) (c .before .words4 .given), (s, record { loads = c .before .before .before .before .loads4 .given ∙ c .before .before .before .before .before .before .before .before .before .before .before .before .before .loads3 .given ∙ c .before .before .before .before .before .before .before .before .before .before .before .before .before .before .before .before .before .before .before .before .before .before .loads2 .given ∙ k .loads; times = c .before .before .times4 .given ∙ c .before .before .before .before .before .before .before .before .before .before .before .times3 .given ∙ c .before .before .before .before .before .before .before .before .before .before .before .before .before .before .before .before .before .before .before .before .times2 .given ∙ k .times; words = c .before .words4 .given ∙ c .before .before .before .before .before .before .before .before .before .before .words3 .given ∙ c .before .before .before .before .before .before .before .before .before .before .before .before .before .before .before .before .before .before .before .words2 .given ∙ k .words }))
+
+below-add-seen : (t : ℕ) → below-lts.Need-add-seen (
+  last-below-reads.Asked,
+  last-below-reads.Learnt,
+  wire-row-reads.Asked,
+  wire-row-reads.Learnt,
+  previous-beside-reads.Asked,
+  previous-beside-reads.Learnt,
+  start-reads.Asked,
+  start-reads.Learnt,
+  put-site-reads.Asked,
+  put-site-reads.Learnt,
+  hang-reads.Asked,
+  hang-reads.Learnt,
+  seen-below t,
+  seen.Post,
+) (below-at t) below.Post below-Inv-loop below-μ-loop
+below-add-seen t c = omega (arith, c .before .before .before .before .before .before .before .loop .inv .1 .0 .made .fits)
+
+below-seen-requires : (t : ℕ) → below-lts.Need-seen-requires (
+  last-below-reads.Asked,
+  last-below-reads.Learnt,
+  wire-row-reads.Asked,
+  wire-row-reads.Learnt,
+  previous-beside-reads.Asked,
+  previous-beside-reads.Learnt,
+  start-reads.Asked,
+  start-reads.Learnt,
+  put-site-reads.Asked,
+  put-site-reads.Learnt,
+  hang-reads.Asked,
+  hang-reads.Learnt,
+  seen-below t,
+  seen.Post,
+) (below-at t) below.Post below-Inv-loop below-μ-loop
+below-seen-requires t c κs =
+    let a = c .before .before .before .before .before .before .before .before .before .before .before .before .before .before .before .before .before .before .before .before .before .before .before .args in
+    let p = c .before .before .before .before .before .before .before .before .before .before .before .before .before .before .before .before .before .before .before .before .before .before .before .pre .1 in
+    let l = c .before .before .before .before .before .before .before .loop in
+    let y = c .before .before .before .before .before .before .previous-beside in
+    let w = run (l .loads) (l .times) (l .words) in
+    let long = room-run workRoom (l .inv .0) (omega arith) in
+    let h = sibling-more (a .rows .now) (a .due .now) (a .types .now) (a .count) (a .n) (a .links .now) (p .0) (a .p) (a .at) (p .1 .0 .0) (p .1 .1 .1 .0) (l .c) _ w (l .m) (l .inv .1 .0) (y .result) (y .ensures) (c .before .before .before .before .before .if1 .left) in
+    let f = sibling-after (a .rows .now) (a .due .now) (a .types .now) (a .count) (a .n) (a .links .now) (p .0) (a .p) (a .at) (p .1 .0 .0) (p .1 .1 .1 .0) (l .c) _ w (l .m) (l .inv .1 .0) (y .result) (y .ensures) (c .before .before .before .before .before .if1 .left) long in
+    (omega (arith, h, f, c .before .before .before .before .before .before .before .before .before .before .before .before .before .before .before .before .before .before .before .before .before .before .before .pre .0), (p .0, (h, (l .inv .0, sibling-room (a .rows .now) (a .due .now) (a .types .now) (a .count) (a .n) (a .links .now) (p .0) (a .p) (a .at) (p .1 .0 .0) (p .1 .1 .1 .0) (l .c) _ w (l .m) (l .inv .1 .0) (y .result) (y .ensures) (c .before .before .before .before .before .if1 .left) long))))
+
+below-hang-requires-2 : (t : ℕ) → below-lts.Need-hang-requires-2 (
+  last-below-reads.Asked,
+  last-below-reads.Learnt,
+  wire-row-reads.Asked,
+  wire-row-reads.Learnt,
+  previous-beside-reads.Asked,
+  previous-beside-reads.Learnt,
+  start-reads.Asked,
+  start-reads.Learnt,
+  put-site-reads.Asked,
+  put-site-reads.Learnt,
+  hang-reads.Asked,
+  hang-reads.Learnt,
+  seen-below t,
+  seen.Post,
+) (below-at t) below.Post below-Inv-loop below-μ-loop
+below-hang-requires-2 t c κs =
+    let a = c .before .before .before .before .before .before .before .before .before .before .before .before .before .before .before .before .before .before .before .before .before .before .before .before .before .before .before .before .before .before .before .before .args in
+    let p = c .before .before .before .before .before .before .before .before .before .before .before .before .before .before .before .before .before .before .before .before .before .before .before .before .before .before .before .before .before .before .before .before .pre .1 in
+    let l = c .before .before .before .before .before .before .before .before .before .before .before .before .before .before .before .before .loop in
+    let y = c .before .before .before .before .before .before .before .before .before .before .before .before .before .before .before .previous-beside in
+    let o = c .before .before .before .before .before .before .before .before .seen in
+    let w = run (l .loads) (l .times) (l .words) in
+    let long = room-run workRoom (l .inv .0) (omega arith) in
+    let h = sibling-more (a .rows .now) (a .due .now) (a .types .now) (a .count) (a .n) (a .links .now) (p .0) (a .p) (a .at) (p .1 .0 .0) (p .1 .1 .1 .0) (l .c) _ w (l .m) (l .inv .1 .0) (y .result) (y .ensures) (c .before .before .before .before .before .before .before .before .before .before .before .before .before .before .if1 .left) in
+    let r₂ : Room (o .last .1 .1 .1 .1 .1 .0) (o .last .1 .1 .1 .1 .1 .1 .0) (o .last .1 .1 .1 .1 .1 .1 .1 .0) = room-kept _ _ _ (l .inv .0) (c .before .before .before .before .before .before .before .loads5 .given) (c .before .before .before .before .before .times5 .given) (c .before .before .before .before .words5 .given) in
+    (row-there (a .rows .now) (a .due .now) (a .types .now) (a .count) (a .n) (a .links .now) (p .0) (y .result) h, (r₂, (ohms-in (a .rows .now) (a .due .now) (a .types .now) (a .count) (a .n) (a .links .now) (p .0) (y .result) h, sibling-hang (a .rows .now) (a .due .now) (a .types .now) (a .count) (a .n) (a .links .now) (p .0) (a .p) (a .at) (p .1 .0 .0) (p .1 .1 .1 .0) (l .c) _ w (l .m) (l .inv .1 .0) (y .result) (y .ensures) (c .before .before .before .before .before .before .before .before .before .before .before .before .before .before .if1 .left) long (run (o .last .1 .1 .1 .1 .1 .0) (o .last .1 .1 .1 .1 .1 .1 .0) (o .last .1 .1 .1 .1 .1 .1 .1 .0)) (room-run workRoom r₂ (omega arith)) (o .result) (o .ensures))))
+
+below-loop-less-2 : (t : ℕ) → below-lts.Need-loop-less-2 (
+  last-below-reads.Asked,
+  last-below-reads.Learnt,
+  wire-row-reads.Asked,
+  wire-row-reads.Learnt,
+  previous-beside-reads.Asked,
+  previous-beside-reads.Learnt,
+  start-reads.Asked,
+  start-reads.Learnt,
+  put-site-reads.Asked,
+  put-site-reads.Learnt,
+  hang-reads.Asked,
+  hang-reads.Learnt,
+  seen-below t,
+  seen.Post,
+) (below-at t) below.Post below-Inv-loop below-μ-loop
+below-loop-less-2 t c =
+    let a = c .before .before .before .before .before .before .before .before .before .before .before .before .before .before .before .before .before .before .before .before .before .before .before .before .before .before .before .before .before .before .before .before .before .before .before .before .before .before .args in
+    let p = c .before .before .before .before .before .before .before .before .before .before .before .before .before .before .before .before .before .before .before .before .before .before .before .before .before .before .before .before .before .before .before .before .before .before .before .before .before .before .pre .1 in
+    let l = c .before .before .before .before .before .before .before .before .before .before .before .before .before .before .before .before .before .before .before .before .before .before .loop in
+    let y = c .before .before .before .before .before .before .before .before .before .before .before .before .before .before .before .before .before .before .before .before .before .previous-beside in
+    sibling-earlier (a .rows .now) (a .due .now) (a .types .now) (a .count) (a .n) (a .links .now) (p .0) (a .p) (a .at) (p .1 .0 .0) (p .1 .1 .1 .0) (l .c) _ (run (l .loads) (l .times) (l .words)) (l .m) (l .inv .1 .0) (y .result) (y .ensures) (c .before .before .before .before .before .before .before .before .before .before .before .before .before .before .before .before .before .before .before .before .if1 .left)
+
+below-loop-again-2 : (t : ℕ) → below-lts.Need-loop-again-2 (
+  last-below-reads.Asked,
+  last-below-reads.Learnt,
+  wire-row-reads.Asked,
+  wire-row-reads.Learnt,
+  previous-beside-reads.Asked,
+  previous-beside-reads.Learnt,
+  start-reads.Asked,
+  start-reads.Learnt,
+  put-site-reads.Asked,
+  put-site-reads.Learnt,
+  hang-reads.Asked,
+  hang-reads.Learnt,
+  seen-below t,
+  seen.Post,
+) (below-at t) below.Post below-Inv-loop below-μ-loop
+below-loop-again-2 t c =
+    let a = c .before .before .before .before .before .before .before .before .before .before .before .before .before .before .before .before .before .before .before .before .before .before .before .before .before .before .before .before .before .before .before .before .before .before .before .before .before .before .args in
+    let p = c .before .before .before .before .before .before .before .before .before .before .before .before .before .before .before .before .before .before .before .before .before .before .before .before .before .before .before .before .before .before .before .before .before .before .before .before .before .before .pre .1 in
+    let l = c .before .before .before .before .before .before .before .before .before .before .before .before .before .before .before .before .before .before .before .before .before .before .loop in
+    let y = c .before .before .before .before .before .before .before .before .before .before .before .before .before .before .before .before .before .before .before .before .before .previous-beside in
+    let o = c .before .before .before .before .before .before .before .before .before .before .before .before .before .before .seen in
+    let u = c .before .before .before .before .before .hang2 in
+    let w = run (l .loads) (l .times) (l .words) in
+    let long = room-run workRoom (l .inv .0) (omega arith) in
+    let r₂ : Room (o .last .1 .1 .1 .1 .1 .0) (o .last .1 .1 .1 .1 .1 .1 .0) (o .last .1 .1 .1 .1 .1 .1 .1 .0) = room-kept _ _ _ (l .inv .0) (c .before .before .before .before .before .before .before .before .before .before .before .before .before .loads5 .given) (c .before .before .before .before .before .before .before .before .before .before .before .times5 .given) (c .before .before .before .before .before .before .before .before .before .before .words5 .given) in
+    let s = sibling-made (a .rows .now) (a .due .now) (a .types .now) (a .count) (a .n) (a .links .now) (p .0) (a .p) (a .at) (p .1 .0 .0) (p .1 .1 .1 .0) (l .c) _ w (l .m) (l .inv .1 .0) (y .result) (y .ensures) (c .before .before .before .before .before .before .before .before .before .before .before .before .before .before .before .before .before .before .before .before .if1 .left) long (run (o .last .1 .1 .1 .1 .1 .0) (o .last .1 .1 .1 .1 .1 .1 .0) (o .last .1 .1 .1 .1 .1 .1 .1 .0)) (room-run workRoom r₂ (omega arith)) (o .result) (o .ensures) (run (u .last .1 .1 .0) (u .last .1 .1 .1 .0) (u .last .1 .1 .1 .1 .0)) (u .result) (u .ensures) in
+    let k = l .inv .1 .1 in
+    (room-kept _ _ _ r₂ (c .before .before .before .before .loads6 .given) (c .before .before .times6 .given) (c .before .words6 .given), (s, record { loads = c .before .before .before .before .loads6 .given ∙ c .before .before .before .before .before .before .before .before .before .before .before .before .before .loads5 .given ∙ k .loads; times = c .before .before .times6 .given ∙ c .before .before .before .before .before .before .before .before .before .before .before .times5 .given ∙ k .times; words = c .before .words6 .given ∙ c .before .before .before .before .before .before .before .before .before .before .words5 .given ∙ k .words }))
+
+abbrev seen-Inv-loop : seen-lts.InvT-loop
+seen-Inv-loop rows due types count links loads₀ times₀ words₀ n row at r₀ m₀ loads times words r m =
+    Room loads times words × (Spine links n row r × (Driven (repeatersFrom types 0 count) (rowsFrom rows due 0 n) r (run loads₀ times₀ words₀) (run loads times words) at m × Kept loads₀ times₀ words₀ loads times words))
+
+abbrev seen-μ-loop : seen-lts.MeasureT-loop
+seen-μ-loop rows due types count links loads₀ times₀ words₀ n row at r₀ m₀ loads times words r m = r
+
+seen-deepest-requires : (t : ℕ) → seen-lts.Need-deepest-requires (
+  deepest-reads.Asked,
+  deepest-reads.Learnt,
+  start-reads.Asked,
+  start-reads.Learnt,
+  put-site-reads.Asked,
+  put-site-reads.Learnt,
+  row-at-reads.Asked,
+  row-at-reads.Learnt,
   below-below t,
   below.Post,
-) (seen-at t) seen.Post
-seen-sites-before-requires t c κs =
-    let s = c .before .before .before .before .before .before in
-    let a = s .args in
-    let p = s .pre .1 in
-    (omega (arith, p .0 .standing .few, p .1 .0), p .0 .linked .long)
+) (seen-at t) seen.Post seen-Inv-loop seen-μ-loop
+seen-deepest-requires t c κs =
+    let a = c .before .before .before .before .before .args in
+    let p = c .before .before .before .before .before .pre .1 in
+    ((p .1 .0, p .0 .standing .few), (p .0 .linked .long, rising (a .rows .now) (a .due .now) (a .types .now) (a .count) (a .n) (a .links .now) (p .0)))
 
 seen-start-requires : (t : ℕ) → seen-lts.Need-start-requires (
-  row-at-reads.Asked,
-  row-at-reads.Learnt,
-  sites-before-reads.Asked,
-  sites-before-reads.Learnt,
+  deepest-reads.Asked,
+  deepest-reads.Learnt,
   start-reads.Asked,
   start-reads.Learnt,
   put-site-reads.Asked,
   put-site-reads.Learnt,
-  first-below-reads.Asked,
-  first-below-reads.Learnt,
+  row-at-reads.Asked,
+  row-at-reads.Learnt,
   below-below t,
   below.Post,
-) (seen-at t) seen.Post
+) (seen-at t) seen.Post seen-Inv-loop seen-μ-loop
 seen-start-requires t c κs =
-    let s = c .before .before .before .before .before .before .before .before .before .before in
-    let a = s .args in
-    let p = s .pre .1 in
-    let x = c .before .before .before .before .row-at in
-    let k = c .before .before .before .sites-before in
-    (p .1 .1 .0, start-fits (a .rows .now) (a .due .now) (a .types .now) (a .count) (a .n) (a .links .now) (p .0) (a .row) (a .at) (p .1 .0) (p .1 .1 .1) (x .result) (x .ensures) (k .result) (k .ensures))
+    let a = c .before .before .before .before .before .before .before .before .before .args in
+    let p = c .before .before .before .before .before .before .before .before .before .pre .1 in
+    let d = c .before .before .before .deepest in
+    (row-there (a .rows .now) (a .due .now) (a .types .now) (a .count) (a .n) (a .links .now) (p .0) (d .result) (d .ensures .1 .0), (p .1 .1 .0, start-fits (a .rows .now) (a .due .now) (a .types .now) (a .count) (a .n) (a .links .now) (p .0) (a .row) (a .at) (p .1 .0) (p .1 .1 .1) (d .result) (d .ensures .0)))
+
+seen-loop-holds : (t : ℕ) → seen-lts.Need-loop-holds (
+  deepest-reads.Asked,
+  deepest-reads.Learnt,
+  start-reads.Asked,
+  start-reads.Learnt,
+  put-site-reads.Asked,
+  put-site-reads.Learnt,
+  row-at-reads.Asked,
+  row-at-reads.Learnt,
+  below-below t,
+  below.Post,
+) (seen-at t) seen.Post seen-Inv-loop seen-μ-loop
+seen-loop-holds t c =
+    let a = c .before .before .before .before .before .before .before .before .before .before .before .before .before .before .before .args in
+    let p = c .before .before .before .before .before .before .before .before .before .before .before .before .before .before .before .pre .1 in
+    let d = c .before .before .before .before .before .before .before .before .before .deepest in
+    let u = c .before .before .before .before .before .start in
+    let s = started (a .rows .now) (a .due .now) (a .types .now) (a .count) (a .n) (a .links .now) (p .0) (a .row) (a .at) (p .1 .0) (p .1 .1 .1) (d .result) (d .ensures .0) (run (a .loads .now) (a .times .now) (a .words .now)) (run (u .last .1 .1 .0) (u .last .1 .1 .1 .0) (u .last .1 .1 .1 .1 .0)) (room-run workRoom (p .1 .1 .0) (omega arith)) (d .ensures .1 .1) (u .ensures) in
+    (room-kept _ _ _ (p .1 .1 .0) (c .before .before .before .before .loads .given) (c .before .before .times .given) (c .before .words .given), (d .ensures .0, (driven-here s, record { loads = refl; times = refl; words = refl })))
 
 seen-put-site-requires : (t : ℕ) → seen-lts.Need-put-site-requires (
-  row-at-reads.Asked,
-  row-at-reads.Learnt,
-  sites-before-reads.Asked,
-  sites-before-reads.Learnt,
+  deepest-reads.Asked,
+  deepest-reads.Learnt,
   start-reads.Asked,
   start-reads.Learnt,
   put-site-reads.Asked,
   put-site-reads.Learnt,
-  first-below-reads.Asked,
-  first-below-reads.Learnt,
+  row-at-reads.Asked,
+  row-at-reads.Learnt,
   below-below t,
   below.Post,
-) (seen-at t) seen.Post
+) (seen-at t) seen.Post seen-Inv-loop seen-μ-loop
 seen-put-site-requires t c κs =
-    let s = c .before .before .before .before .before .before .before .before .before .before .before .before .before .before .before .before .before .before .before .before in
-    let a = s .args in
-    let p = s .pre .1 in
-    let x = c .before .before .before .before .before .before .before .before .before .before .before .before .before .before .row-at in
-    let k = c .before .before .before .before .before .before .before .before .before .before .before .before .before .sites-before in
-    let u = c .before .before .before .before .before .before .before .before .before .start in
-    let r₁ : Room (u .last .0) (u .last .1 .0) (u .last .1 .1 .0) = room-kept _ _ _ (p .1 .1 .0) (c .before .before .before .before .before .before .before .before .loads .given) (c .before .before .before .before .before .before .times .given) (c .before .before .before .before .before .words .given) in
-    let long = room-run workRoom (p .1 .1 .0) (omega arith) in
-    let z : Started (x .result .kind) (run (a .loads .now) (a .times .now) (a .words .now)) (run (u .last .0) (u .last .1 .0) (u .last .1 .1 .0)) (a .at) true = rw (c .before .before .before .if1 .taken) at (u .ensures) in
-    (typed (a .rows .now) (a .due .now) (a .types .now) (a .count) (a .n) (a .links .now) (p .0), (r₁, sink-sited (a .rows .now) (a .due .now) (a .types .now) (a .count) (a .n) (a .links .now) (p .0) (a .row) (a .at) (p .1 .0) (p .1 .1 .1) (x .result) (x .ensures) (k .result) (k .ensures) (run (a .loads .now) (a .times .now) (a .words .now)) (run (u .last .0) (u .last .1 .0) (u .last .1 .1 .0)) long z))
+    let a = c .before .before .before .before .before .before .before .before .before .before .before .before .before .before .before .before .before .before .before .args in
+    let p = c .before .before .before .before .before .before .before .before .before .before .before .before .before .before .before .before .before .before .before .pre .1 in
+    let l = c .before .before .before .loop in
+    let i = l .inv .1 in
+    (row-there (a .rows .now) (a .due .now) (a .types .now) (a .count) (a .n) (a .links .now) (p .0) (l .r) (way-inside (a .rows .now) (a .due .now) (a .types .now) (a .count) (a .n) (a .links .now) (p .0) (a .row) (a .at) (p .1 .0) (p .1 .1 .1) (l .r) (i .0)), (typed (a .rows .now) (a .due .now) (a .types .now) (a .count) (a .n) (a .links .now) (p .0), (p .0 .linked .long, (l .inv .0, driven-sited (a .rows .now) (a .due .now) (a .types .now) (a .count) (a .n) (a .links .now) (p .0) (a .row) (a .at) (p .1 .0) (p .1 .1 .1) (l .r) (i .0) _ (run (l .loads) (l .times) (l .words)) (l .m) (i .1 .0)))))
 
 seen-same-length : (t : ℕ) → seen-lts.Need-same-length (
-  row-at-reads.Asked,
-  row-at-reads.Learnt,
-  sites-before-reads.Asked,
-  sites-before-reads.Learnt,
+  deepest-reads.Asked,
+  deepest-reads.Learnt,
   start-reads.Asked,
   start-reads.Learnt,
   put-site-reads.Asked,
   put-site-reads.Learnt,
-  first-below-reads.Asked,
-  first-below-reads.Learnt,
+  row-at-reads.Asked,
+  row-at-reads.Learnt,
   below-below t,
   below.Post,
-) (seen-at t) seen.Post
-seen-same-length t c = c .before .before .before .before .loads2 .given ∙ c .before .before .before .before .before .before .before .before .before .before .before .before .before .before .loads .given
+) (seen-at t) seen.Post seen-Inv-loop seen-μ-loop
+seen-same-length t c = c .before .before .before .before .before .loads2 .given ∙ c .before .before .before .before .before .before .before .before .before .before .loop .inv .1 .1 .1 .loads ∙ c .before .before .before .before .before .before .before .before .before .before .before .before .before .before .before .loads .given
 
 seen-same-length-2 : (t : ℕ) → seen-lts.Need-same-length-2 (
-  row-at-reads.Asked,
-  row-at-reads.Learnt,
-  sites-before-reads.Asked,
-  sites-before-reads.Learnt,
+  deepest-reads.Asked,
+  deepest-reads.Learnt,
   start-reads.Asked,
   start-reads.Learnt,
   put-site-reads.Asked,
   put-site-reads.Learnt,
-  first-below-reads.Asked,
-  first-below-reads.Learnt,
+  row-at-reads.Asked,
+  row-at-reads.Learnt,
   below-below t,
   below.Post,
-) (seen-at t) seen.Post
-seen-same-length-2 t c = c .before .before .times2 .given ∙ c .before .before .before .before .before .before .before .before .before .before .before .before .times .given
+) (seen-at t) seen.Post seen-Inv-loop seen-μ-loop
+seen-same-length-2 t c = c .before .before .before .times2 .given ∙ c .before .before .before .before .before .before .before .before .before .before .loop .inv .1 .1 .1 .times ∙ c .before .before .before .before .before .before .before .before .before .before .before .before .before .times .given
 
 seen-same-length-3 : (t : ℕ) → seen-lts.Need-same-length-3 (
-  row-at-reads.Asked,
-  row-at-reads.Learnt,
-  sites-before-reads.Asked,
-  sites-before-reads.Learnt,
+  deepest-reads.Asked,
+  deepest-reads.Learnt,
   start-reads.Asked,
   start-reads.Learnt,
   put-site-reads.Asked,
   put-site-reads.Learnt,
-  first-below-reads.Asked,
-  first-below-reads.Learnt,
+  row-at-reads.Asked,
+  row-at-reads.Learnt,
   below-below t,
   below.Post,
-) (seen-at t) seen.Post
-seen-same-length-3 t c = c .before .words2 .given ∙ c .before .before .before .before .before .before .before .before .before .before .before .words .given
+) (seen-at t) seen.Post seen-Inv-loop seen-μ-loop
+seen-same-length-3 t c = c .before .before .words2 .given ∙ c .before .before .before .before .before .before .before .before .before .before .loop .inv .1 .1 .1 .words ∙ c .before .before .before .before .before .before .before .before .before .before .before .before .words .given
 
 seen-returns : (t : ℕ) → seen-lts.Need-returns (
-  row-at-reads.Asked,
-  row-at-reads.Learnt,
-  sites-before-reads.Asked,
-  sites-before-reads.Learnt,
+  deepest-reads.Asked,
+  deepest-reads.Learnt,
   start-reads.Asked,
   start-reads.Learnt,
   put-site-reads.Asked,
   put-site-reads.Learnt,
-  first-below-reads.Asked,
-  first-below-reads.Learnt,
+  row-at-reads.Asked,
+  row-at-reads.Learnt,
   below-below t,
   below.Post,
-) (seen-at t) seen.Post
+) (seen-at t) seen.Post seen-Inv-loop seen-μ-loop
 seen-returns t c =
-    let s = c .before .before .before .before .before .before .before .before .before .before .before .before .before .before .before .before .before .before .before .before .before .before .before .before .before .before in
-    let a = s .args in
-    let p = s .pre .1 in
-    let x = c .before .before .before .before .before .before .before .before .before .before .before .before .before .before .before .before .before .before .before .before .row-at in
-    let k = c .before .before .before .before .before .before .before .before .before .before .before .before .before .before .before .before .before .before .before .sites-before in
-    let u = c .before .before .before .before .before .before .before .before .before .before .before .before .before .before .before .start in
-    let r₁ : Room (u .last .0) (u .last .1 .0) (u .last .1 .1 .0) = room-kept _ _ _ (p .1 .1 .0) (c .before .before .before .before .before .before .before .before .before .before .before .before .before .before .loads .given) (c .before .before .before .before .before .before .before .before .before .before .before .before .times .given) (c .before .before .before .before .before .before .before .before .before .before .before .words .given) in
-    let long = room-run workRoom (p .1 .1 .0) (omega arith) in
-    let z : Started (x .result .kind) (run (a .loads .now) (a .times .now) (a .words .now)) (run (u .last .0) (u .last .1 .0) (u .last .1 .1 .0)) (a .at) true = rw (c .before .before .before .before .before .before .before .before .before .if1 .taken) at (u .ensures) in
-    let v = c .before .before .before .before .before .put-site in
-    sink-made (a .rows .now) (a .due .now) (a .types .now) (a .count) (a .n) (a .links .now) (p .0) (a .row) (a .at) (p .1 .0) (p .1 .1 .1) (x .result) (x .ensures) (k .result) (k .ensures) (run (a .loads .now) (a .times .now) (a .words .now)) (run (u .last .0) (u .last .1 .0) (u .last .1 .1 .0)) long (run (v .last .1 .1 .0) (v .last .1 .1 .1 .0) (v .last .1 .1 .1 .1 .0)) (v .result) z (v .ensures)
+    let a = c .before .before .before .before .before .before .before .before .before .before .before .before .before .before .before .before .before .before .before .before .before .before .before .before .before .before .args in
+    let p = c .before .before .before .before .before .before .before .before .before .before .before .before .before .before .before .before .before .before .before .before .before .before .before .before .before .before .pre .1 in
+    let d = c .before .before .before .before .before .before .before .before .before .before .before .before .before .before .before .before .before .before .before .before .deepest in
+    let u = c .before .before .before .before .before .before .before .before .before .before .before .before .before .before .before .before .start in
+    let l = c .before .before .before .before .before .before .before .before .before .before .loop in
+    let i = l .inv .1 in
+    let v = c .before .before .before .before .before .before .put-site in
+    let w = run (a .loads .now) (a .times .now) (a .words .now) in
+    let s = started (a .rows .now) (a .due .now) (a .types .now) (a .count) (a .n) (a .links .now) (p .0) (a .row) (a .at) (p .1 .0) (p .1 .1 .1) (d .result) (d .ensures .0) w (run (u .last .1 .1 .0) (u .last .1 .1 .1 .0) (u .last .1 .1 .1 .1 .0)) (room-run workRoom (p .1 .1 .0) (omega arith)) (d .ensures .1 .1) (u .ensures) in
+    let m = site-made (a .rows .now) (a .due .now) (a .types .now) (a .count) (a .n) (a .links .now) (p .0) (a .row) (a .at) (p .1 .0) (p .1 .1 .1) (l .r) (i .0) _ (run (l .loads) (l .times) (l .words)) (l .m) (i .1 .0) (run (v .last .1 .1 .1 .1 .1 .0) (v .last .1 .1 .1 .1 .1 .1 .0) (v .last .1 .1 .1 .1 .1 .1 .1 .0)) (v .result) (v .ensures) in
+    made-since w (s .before) (rw (c .if1 .taken) at m)
 
-seen-first-below-requires : (t : ℕ) → seen-lts.Need-first-below-requires (
-  row-at-reads.Asked,
-  row-at-reads.Learnt,
-  sites-before-reads.Asked,
-  sites-before-reads.Learnt,
+seen-row-at-requires : (t : ℕ) → seen-lts.Need-row-at-requires (
+  deepest-reads.Asked,
+  deepest-reads.Learnt,
   start-reads.Asked,
   start-reads.Learnt,
   put-site-reads.Asked,
   put-site-reads.Learnt,
-  first-below-reads.Asked,
-  first-below-reads.Learnt,
+  row-at-reads.Asked,
+  row-at-reads.Learnt,
   below-below t,
   below.Post,
-) (seen-at t) seen.Post
-seen-first-below-requires t c κs =
-    let s = c .before .before .before .before .before .before .before .before .before .before .before .before .before .before .before .before .before in
-    let a = s .args in
-    let p = s .pre .1 in
-    (omega (arith, p .0 .standing .few, p .1 .0), p .0 .linked .long)
+) (seen-at t) seen.Post seen-Inv-loop seen-μ-loop
+seen-row-at-requires t c κs =
+    let a = c .before .before .before .before .before .before .before .before .before .before .before .before .before .before .before .before .before .before .before .before .before .before .before .before .before .before .args in
+    let p = c .before .before .before .before .before .before .before .before .before .before .before .before .before .before .before .before .before .before .before .before .before .before .before .before .before .before .pre .1 in
+    let l = c .before .before .before .before .before .before .before .before .before .before .loop in
+    row-there (a .rows .now) (a .due .now) (a .types .now) (a .count) (a .n) (a .links .now) (p .0) (l .r) (way-inside (a .rows .now) (a .due .now) (a .types .now) (a .count) (a .n) (a .links .now) (p .0) (a .row) (a .at) (p .1 .0) (p .1 .1 .1) (l .r) (l .inv .1 .0))
+
+seen-cast-r : (t : ℕ) → seen-lts.Need-cast-r (
+  deepest-reads.Asked,
+  deepest-reads.Learnt,
+  start-reads.Asked,
+  start-reads.Learnt,
+  put-site-reads.Asked,
+  put-site-reads.Learnt,
+  row-at-reads.Asked,
+  row-at-reads.Learnt,
+  below-below t,
+  below.Post,
+) (seen-at t) seen.Post seen-Inv-loop seen-μ-loop
+seen-cast-r t c = search needs
 
 seen-below-requires : (t : ℕ) → seen-lts.Need-below-requires (
-  row-at-reads.Asked,
-  row-at-reads.Learnt,
-  sites-before-reads.Asked,
-  sites-before-reads.Learnt,
+  deepest-reads.Asked,
+  deepest-reads.Learnt,
   start-reads.Asked,
   start-reads.Learnt,
   put-site-reads.Asked,
   put-site-reads.Learnt,
-  first-below-reads.Asked,
-  first-below-reads.Learnt,
+  row-at-reads.Asked,
+  row-at-reads.Learnt,
   below-below t,
   below.Post,
-) (seen-at t) seen.Post
+) (seen-at t) seen.Post seen-Inv-loop seen-μ-loop
 seen-below-requires t c κs =
-    let s = c .before .before .before .before .before .before .before .before .before .before .before .before .before .before .before .before .before .before .before .before .before in
-    let a = s .args in
-    let p = s .pre .1 in
-    let x = c .before .before .before .before .before .before .before .before .before .before .before .before .before .before .before .row-at in
-    let k = c .before .before .before .before .before .before .before .before .before .before .before .before .before .before .sites-before in
-    let u = c .before .before .before .before .before .before .before .before .before .before .start in
-    let r₁ : Room (u .last .0) (u .last .1 .0) (u .last .1 .1 .0) = room-kept _ _ _ (p .1 .1 .0) (c .before .before .before .before .before .before .before .before .before .loads .given) (c .before .before .before .before .before .before .before .times .given) (c .before .before .before .before .before .before .words .given) in
-    let long = room-run workRoom (p .1 .1 .0) (omega arith) in
-    let z : Started (x .result .kind) (run (a .loads .now) (a .times .now) (a .words .now)) (run (u .last .0) (u .last .1 .0) (u .last .1 .1 .0)) (a .at) false = rw (c .before .before .before .before .if1 .left) at (u .ensures) in
-    let f = c .before .before .before .first-below in
-    let g = below-there (a .rows .now) (a .due .now) (a .types .now) (a .count) (a .n) (a .links .now) (p .0) (a .row) (a .at) (p .1 .0) (p .1 .1 .1) (x .result) (x .ensures) (k .result) (k .ensures) (run (a .loads .now) (a .times .now) (a .words .now)) (run (u .last .0) (u .last .1 .0) (u .last .1 .1 .0)) z (f .result) (f .ensures) in
-    (omega (arith, g), (p .0, ((omega (arith, g), omega (arith, g)), (r₁, below-room (a .rows .now) (a .due .now) (a .types .now) (a .count) (a .n) (a .links .now) (p .0) (a .row) (a .at) (p .1 .0) (p .1 .1 .1) (x .result) (x .ensures) (k .result) (k .ensures) (run (a .loads .now) (a .times .now) (a .words .now)) (run (u .last .0) (u .last .1 .0) (u .last .1 .1 .0)) z (f .result) (f .ensures)))))
+    let a = c .before .before .before .before .before .before .before .before .before .before .before .before .before .before .before .before .before .before .before .before .before .before .before .before .before .before .before .before .before .before .before .args in
+    let p = c .before .before .before .before .before .before .before .before .before .before .before .before .before .before .before .before .before .before .before .before .before .before .before .before .before .before .before .before .before .before .before .pre .1 in
+    let l = c .before .before .before .before .before .before .before .before .before .before .before .before .before .before .before .loop in
+    let i = l .inv .1 in
+    let v = c .before .before .before .before .before .before .before .before .before .before .before .put-site in
+    let x = c .before .before .before .before .row-at in
+    let m = site-made (a .rows .now) (a .due .now) (a .types .now) (a .count) (a .n) (a .links .now) (p .0) (a .row) (a .at) (p .1 .0) (p .1 .1 .1) (l .r) (i .0) _ (run (l .loads) (l .times) (l .words)) (l .m) (i .1 .0) (run (v .last .1 .1 .1 .1 .1 .0) (v .last .1 .1 .1 .1 .1 .1 .0) (v .last .1 .1 .1 .1 .1 .1 .1 .0)) (v .result) (v .ensures) in
+    let b = above (a .rows .now) (a .due .now) (a .types .now) (a .count) (a .n) (a .links .now) (p .0) (a .row) (a .at) (p .1 .0) (p .1 .1 .1) (l .r) (i .0) (x .result) (x .ensures) (c .before .before .before .before .before .if1 .left) in
+    let f = way-after (a .rows .now) (a .due .now) (a .types .now) (a .count) (a .n) (a .links .now) (p .0) (a .row) (a .at) (p .1 .0) (p .1 .1 .1) (x .result .parent) (b .way) in
+    let h = way-inside (a .rows .now) (a .due .now) (a .types .now) (a .count) (a .n) (a .links .now) (p .0) (a .row) (a .at) (p .1 .0) (p .1 .1 .1) (l .r) (i .0) in
+    (omega (arith, f, c .before .before .before .before .before .before .before .before .before .before .before .before .before .before .before .before .before .before .before .before .before .before .before .before .before .before .before .before .before .before .before .pre .0), (p .0, ((b .inside, rw (b .last) h), (room-kept _ _ _ (l .inv .0) (c .before .before .before .before .before .before .before .before .before .before .loads2 .given) (c .before .before .before .before .before .before .before .before .times2 .given) (c .before .before .before .before .before .before .before .words2 .given), (way-room (a .rows .now) (a .due .now) (a .types .now) (a .count) (a .n) (a .links .now) (p .0) (a .row) (a .at) (p .1 .0) (p .1 .1 .1) (x .result .parent) (b .way), rw (b .last) (made-here m))))))
 
-seen-put-site-requires-2 : (t : ℕ) → seen-lts.Need-put-site-requires-2 (
-  row-at-reads.Asked,
-  row-at-reads.Learnt,
-  sites-before-reads.Asked,
-  sites-before-reads.Learnt,
+seen-loop-less : (t : ℕ) → seen-lts.Need-loop-less (
+  deepest-reads.Asked,
+  deepest-reads.Learnt,
   start-reads.Asked,
   start-reads.Learnt,
   put-site-reads.Asked,
   put-site-reads.Learnt,
-  first-below-reads.Asked,
-  first-below-reads.Learnt,
-  below-below t,
-  below.Post,
-) (seen-at t) seen.Post
-seen-put-site-requires-2 t c κs =
-    let s = c .before .before .before .before .before .before .before .before .before .before .before .before .before .before .before .before .before .before .before .before .before .before .before .before .before .before .before .before .before .before in
-    let a = s .args in
-    let p = s .pre .1 in
-    let x = c .before .before .before .before .before .before .before .before .before .before .before .before .before .before .before .before .before .before .before .before .before .before .before .before .row-at in
-    let k = c .before .before .before .before .before .before .before .before .before .before .before .before .before .before .before .before .before .before .before .before .before .before .before .sites-before in
-    let u = c .before .before .before .before .before .before .before .before .before .before .before .before .before .before .before .before .before .before .before .start in
-    let r₁ : Room (u .last .0) (u .last .1 .0) (u .last .1 .1 .0) = room-kept _ _ _ (p .1 .1 .0) (c .before .before .before .before .before .before .before .before .before .before .before .before .before .before .before .before .before .before .loads .given) (c .before .before .before .before .before .before .before .before .before .before .before .before .before .before .before .before .times .given) (c .before .before .before .before .before .before .before .before .before .before .before .before .before .before .before .words .given) in
-    let long = room-run workRoom (p .1 .1 .0) (omega arith) in
-    let z : Started (x .result .kind) (run (a .loads .now) (a .times .now) (a .words .now)) (run (u .last .0) (u .last .1 .0) (u .last .1 .1 .0)) (a .at) false = rw (c .before .before .before .before .before .before .before .before .before .before .before .before .before .if1 .left) at (u .ensures) in
-    let f = c .before .before .before .before .before .before .before .before .before .before .before .before .first-below in
-    let b = c .before .before .before .before .before .before .before .before .below in
-    let r₂ : Room (b .last .1 .1 .1 .1 .1 .0) (b .last .1 .1 .1 .1 .1 .1 .0) (b .last .1 .1 .1 .1 .1 .1 .1 .0) = room-kept _ _ _ r₁ (c .before .before .before .before .before .before .before .loads3 .given) (c .before .before .before .before .before .times3 .given) (c .before .before .before .before .words3 .given) in
-    let long₂ = room-run workRoom r₂ (omega arith) in
-    (typed (a .rows .now) (a .due .now) (a .types .now) (a .count) (a .n) (a .links .now) (p .0), (r₂, plain-sited (a .rows .now) (a .due .now) (a .types .now) (a .count) (a .n) (a .links .now) (p .0) (a .row) (a .at) (p .1 .0) (p .1 .1 .1) (x .result) (x .ensures) (k .result) (k .ensures) (run (a .loads .now) (a .times .now) (a .words .now)) (run (u .last .0) (u .last .1 .0) (u .last .1 .1 .0)) z (f .result) (f .ensures) (run (b .last .1 .1 .1 .1 .1 .0) (b .last .1 .1 .1 .1 .1 .1 .0) (b .last .1 .1 .1 .1 .1 .1 .1 .0)) long₂ (b .result) (b .ensures)))
-
-seen-same-length-4 : (t : ℕ) → seen-lts.Need-same-length-4 (
   row-at-reads.Asked,
   row-at-reads.Learnt,
-  sites-before-reads.Asked,
-  sites-before-reads.Learnt,
+  below-below t,
+  below.Post,
+) (seen-at t) seen.Post seen-Inv-loop seen-μ-loop
+seen-loop-less t c =
+    let a = c .before .before .before .before .before .before .before .before .before .before .before .before .before .before .before .before .before .before .before .before .before .before .before .before .before .before .before .before .before .before .before .before .before .before .before .before .before .args in
+    let p = c .before .before .before .before .before .before .before .before .before .before .before .before .before .before .before .before .before .before .before .before .before .before .before .before .before .before .before .before .before .before .before .before .before .before .before .before .before .pre .1 in
+    let l = c .before .before .before .before .before .before .before .before .before .before .before .before .before .before .before .before .before .before .before .before .before .loop in
+    let x = c .before .before .before .before .before .before .before .before .before .before .row-at in
+    let b = above (a .rows .now) (a .due .now) (a .types .now) (a .count) (a .n) (a .links .now) (p .0) (a .row) (a .at) (p .1 .0) (p .1 .1 .1) (l .r) (l .inv .1 .0) (x .result) (x .ensures) (c .before .before .before .before .before .before .before .before .before .before .before .if1 .left) in
+    omega (arith, rising (a .rows .now) (a .due .now) (a .types .now) (a .count) (a .n) (a .links .now) (p .0) (x .result .parent) (b .inside), b .last)
+
+seen-loop-again : (t : ℕ) → seen-lts.Need-loop-again (
+  deepest-reads.Asked,
+  deepest-reads.Learnt,
   start-reads.Asked,
   start-reads.Learnt,
   put-site-reads.Asked,
   put-site-reads.Learnt,
-  first-below-reads.Asked,
-  first-below-reads.Learnt,
-  below-below t,
-  below.Post,
-) (seen-at t) seen.Post
-seen-same-length-4 t c = c .before .before .before .before .loads4 .given ∙ c .before .before .before .before .before .before .before .before .before .before .before .before .before .loads3 .given ∙ c .before .before .before .before .before .before .before .before .before .before .before .before .before .before .before .before .before .before .before .before .before .before .before .before .loads .given
-
-seen-same-length-5 : (t : ℕ) → seen-lts.Need-same-length-5 (
   row-at-reads.Asked,
   row-at-reads.Learnt,
-  sites-before-reads.Asked,
-  sites-before-reads.Learnt,
-  start-reads.Asked,
-  start-reads.Learnt,
-  put-site-reads.Asked,
-  put-site-reads.Learnt,
-  first-below-reads.Asked,
-  first-below-reads.Learnt,
   below-below t,
   below.Post,
-) (seen-at t) seen.Post
-seen-same-length-5 t c = c .before .before .times4 .given ∙ c .before .before .before .before .before .before .before .before .before .before .before .times3 .given ∙ c .before .before .before .before .before .before .before .before .before .before .before .before .before .before .before .before .before .before .before .before .before .before .times .given
-
-seen-same-length-6 : (t : ℕ) → seen-lts.Need-same-length-6 (
-  row-at-reads.Asked,
-  row-at-reads.Learnt,
-  sites-before-reads.Asked,
-  sites-before-reads.Learnt,
-  start-reads.Asked,
-  start-reads.Learnt,
-  put-site-reads.Asked,
-  put-site-reads.Learnt,
-  first-below-reads.Asked,
-  first-below-reads.Learnt,
-  below-below t,
-  below.Post,
-) (seen-at t) seen.Post
-seen-same-length-6 t c = c .before .words4 .given ∙ c .before .before .before .before .before .before .before .before .before .before .words3 .given ∙ c .before .before .before .before .before .before .before .before .before .before .before .before .before .before .before .before .before .before .before .before .before .words .given
-
-seen-returns-2 : (t : ℕ) → seen-lts.Need-returns-2 (
-  row-at-reads.Asked,
-  row-at-reads.Learnt,
-  sites-before-reads.Asked,
-  sites-before-reads.Learnt,
-  start-reads.Asked,
-  start-reads.Learnt,
-  put-site-reads.Asked,
-  put-site-reads.Learnt,
-  first-below-reads.Asked,
-  first-below-reads.Learnt,
-  below-below t,
-  below.Post,
-) (seen-at t) seen.Post
-seen-returns-2 t c =
-    let s = c .before .before .before .before .before .before .before .before .before .before .before .before .before .before .before .before .before .before .before .before .before .before .before .before .before .before .before .before .before .before .before .before .before .before .before .before in
-    let a = s .args in
-    let p = s .pre .1 in
-    let x = c .before .before .before .before .before .before .before .before .before .before .before .before .before .before .before .before .before .before .before .before .before .before .before .before .before .before .before .before .before .before .row-at in
-    let k = c .before .before .before .before .before .before .before .before .before .before .before .before .before .before .before .before .before .before .before .before .before .before .before .before .before .before .before .before .before .sites-before in
-    let u = c .before .before .before .before .before .before .before .before .before .before .before .before .before .before .before .before .before .before .before .before .before .before .before .before .before .start in
-    let r₁ : Room (u .last .0) (u .last .1 .0) (u .last .1 .1 .0) = room-kept _ _ _ (p .1 .1 .0) (c .before .before .before .before .before .before .before .before .before .before .before .before .before .before .before .before .before .before .before .before .before .before .before .before .loads .given) (c .before .before .before .before .before .before .before .before .before .before .before .before .before .before .before .before .before .before .before .before .before .before .times .given) (c .before .before .before .before .before .before .before .before .before .before .before .before .before .before .before .before .before .before .before .before .before .words .given) in
-    let long = room-run workRoom (p .1 .1 .0) (omega arith) in
-    let z : Started (x .result .kind) (run (a .loads .now) (a .times .now) (a .words .now)) (run (u .last .0) (u .last .1 .0) (u .last .1 .1 .0)) (a .at) false = rw (c .before .before .before .before .before .before .before .before .before .before .before .before .before .before .before .before .before .before .before .if1 .left) at (u .ensures) in
-    let f = c .before .before .before .before .before .before .before .before .before .before .before .before .before .before .before .before .before .before .first-below in
-    let b = c .before .before .before .before .before .before .before .before .before .before .before .before .before .before .below in
-    let r₂ : Room (b .last .1 .1 .1 .1 .1 .0) (b .last .1 .1 .1 .1 .1 .1 .0) (b .last .1 .1 .1 .1 .1 .1 .1 .0) = room-kept _ _ _ r₁ (c .before .before .before .before .before .before .before .before .before .before .before .before .before .loads3 .given) (c .before .before .before .before .before .before .before .before .before .before .before .times3 .given) (c .before .before .before .before .before .before .before .before .before .before .words3 .given) in
-    let long₂ = room-run workRoom r₂ (omega arith) in
-    let v = c .before .before .before .before .before .put-site2 in
-    plain-made (a .rows .now) (a .due .now) (a .types .now) (a .count) (a .n) (a .links .now) (p .0) (a .row) (a .at) (p .1 .0) (p .1 .1 .1) (x .result) (x .ensures) (k .result) (k .ensures) (run (a .loads .now) (a .times .now) (a .words .now)) (run (u .last .0) (u .last .1 .0) (u .last .1 .1 .0)) z (f .result) (f .ensures) (run (b .last .1 .1 .1 .1 .1 .0) (b .last .1 .1 .1 .1 .1 .1 .0) (b .last .1 .1 .1 .1 .1 .1 .1 .0)) long₂ (b .result) (b .ensures) (run (v .last .1 .1 .0) (v .last .1 .1 .1 .0) (v .last .1 .1 .1 .1 .0)) (v .result) (v .ensures)
+) (seen-at t) seen.Post seen-Inv-loop seen-μ-loop
+seen-loop-again t c =
+    let a = c .before .before .before .before .before .before .before .before .before .before .before .before .before .before .before .before .before .before .before .before .before .before .before .before .before .before .before .before .before .before .before .before .before .before .before .before .before .args in
+    let p = c .before .before .before .before .before .before .before .before .before .before .before .before .before .before .before .before .before .before .before .before .before .before .before .before .before .before .before .before .before .before .before .before .before .before .before .before .before .pre .1 in
+    let l = c .before .before .before .before .before .before .before .before .before .before .before .before .before .before .before .before .before .before .before .before .before .loop in
+    let i = l .inv .1 in
+    let v = c .before .before .before .before .before .before .before .before .before .before .before .before .before .before .before .before .before .put-site in
+    let x = c .before .before .before .before .before .before .before .before .before .before .row-at in
+    let u = c .before .before .before .before .before .below in
+    let w₂ = run (v .last .1 .1 .1 .1 .1 .0) (v .last .1 .1 .1 .1 .1 .1 .0) (v .last .1 .1 .1 .1 .1 .1 .1 .0) in
+    let m = site-made (a .rows .now) (a .due .now) (a .types .now) (a .count) (a .n) (a .links .now) (p .0) (a .row) (a .at) (p .1 .0) (p .1 .1 .1) (l .r) (i .0) _ (run (l .loads) (l .times) (l .words)) (l .m) (i .1 .0) w₂ (v .result) (v .ensures) in
+    let b = above (a .rows .now) (a .due .now) (a .types .now) (a .count) (a .n) (a .links .now) (p .0) (a .row) (a .at) (p .1 .0) (p .1 .1 .1) (l .r) (i .0) (x .result) (x .ensures) (c .before .before .before .before .before .before .before .before .before .before .before .if1 .left) in
+    let h = way-inside (a .rows .now) (a .due .now) (a .types .now) (a .count) (a .n) (a .links .now) (p .0) (a .row) (a .at) (p .1 .0) (p .1 .1 .1) (l .r) (i .0) in
+    let r₂ : Room (v .last .1 .1 .1 .1 .1 .0) (v .last .1 .1 .1 .1 .1 .1 .0) (v .last .1 .1 .1 .1 .1 .1 .1 .0) = room-kept _ _ _ (l .inv .0) (c .before .before .before .before .before .before .before .before .before .before .before .before .before .before .before .before .loads2 .given) (c .before .before .before .before .before .before .before .before .before .before .before .before .before .before .times2 .given) (c .before .before .before .before .before .before .before .before .before .before .before .before .before .words2 .given) in
+    let r₃ : Room (u .last .1 .1 .1 .1 .1 .0) (u .last .1 .1 .1 .1 .1 .1 .0) (u .last .1 .1 .1 .1 .1 .1 .1 .0) = room-kept _ _ _ r₂ (c .before .before .before .before .loads3 .given) (c .before .before .times3 .given) (c .before .words3 .given) in
+    let s = under-made (a .rows .now) (a .due .now) (a .types .now) (a .count) (a .n) (a .links .now) (p .0) (a .row) (a .at) (p .1 .0) (p .1 .1 .1) (x .result .parent) (b .way) (rw (b .last) h) _ w₂ (run (u .last .1 .1 .1 .1 .1 .0) (u .last .1 .1 .1 .1 .1 .1 .0) (u .last .1 .1 .1 .1 .1 .1 .1 .0)) (room-run workRoom r₃ (omega arith)) (u .result) (m .before) (u .ensures) in
+    let k = i .1 .1 in
+    (r₃, (b .way, (s, record { loads = c .before .before .before .before .loads3 .given ∙ c .before .before .before .before .before .before .before .before .before .before .before .before .before .before .before .before .loads2 .given ∙ k .loads; times = c .before .before .times3 .given ∙ c .before .before .before .before .before .before .before .before .before .before .before .before .before .before .times2 .given ∙ k .times; words = c .before .words3 .given ∙ c .before .before .before .before .before .before .before .before .before .before .before .before .before .words2 .given ∙ k .words })))
 
 pub +below+seen-spec : {M : Type 1} → statement M
 +below+seen-spec = close μ-below μ-seen (λ t. below-lts.spec (
-  row-at-reads.Asked,
-  row-at-reads.Learnt,
-  next-beside-reads.Asked,
-  next-beside-reads.Learnt,
-  seen-below t,
-  seen.Post,
-  wire-list-reads.Asked,
-  wire-list-reads.Learnt,
-  below-below t,
-  below.Post,
+  last-below-reads.Asked,
+  last-below-reads.Learnt,
+  wire-row-reads.Asked,
+  wire-row-reads.Learnt,
+  previous-beside-reads.Asked,
+  previous-beside-reads.Learnt,
+  start-reads.Asked,
+  start-reads.Learnt,
+  put-site-reads.Asked,
+  put-site-reads.Learnt,
   hang-reads.Asked,
   hang-reads.Learnt,
+  seen-below t,
+  seen.Post,
 )
     (below-at t)
     below.Post
-    (below-row-at-requires t)
-    (below-next-beside-requires t)
-    (below-seen-requires t)
-    (below-wire-list-requires t)
+    below-Inv-loop
+    below-μ-loop
+    (below-last-below-requires t)
+    (below-wire-row-requires t)
+    (below-loop-holds t)
+    (below-previous-beside-requires t)
     (below-same-length t)
     (below-same-length-2 t)
     (below-same-length-3 t)
     (below-returns t)
-    (below-below-requires t)
-    (below-add-seen t)
-    (below-seen-requires-2 t)
+    (below-last-below-requires-2 t)
+    (below-add-start t)
+    (below-start-requires t)
+    (below-add-put-site t)
+    (below-put-site-requires t)
     (below-hang-requires t)
-    (below-same-length-4 t)
-    (below-same-length-5 t)
-    (below-same-length-6 t)
-    (below-returns-2 t))
+    (below-loop-less t)
+    (below-loop-again t)
+    (below-add-seen t)
+    (below-seen-requires t)
+    (below-hang-requires-2 t)
+    (below-loop-less-2 t)
+    (below-loop-again-2 t))
     λ t. seen-lts.spec (
-      row-at-reads.Asked,
-      row-at-reads.Learnt,
-      sites-before-reads.Asked,
-      sites-before-reads.Learnt,
+      deepest-reads.Asked,
+      deepest-reads.Learnt,
       start-reads.Asked,
       start-reads.Learnt,
       put-site-reads.Asked,
       put-site-reads.Learnt,
-      first-below-reads.Asked,
-      first-below-reads.Learnt,
+      row-at-reads.Asked,
+      row-at-reads.Learnt,
       below-below t,
       below.Post,
     )
     (seen-at t)
     seen.Post
-    (seen-row-at-requires t)
-    (seen-sites-before-requires t)
+    seen-Inv-loop
+    seen-μ-loop
+    (seen-deepest-requires t)
     (seen-start-requires t)
+    (seen-loop-holds t)
     (seen-put-site-requires t)
     (seen-same-length t)
     (seen-same-length-2 t)
     (seen-same-length-3 t)
     (seen-returns t)
-    (seen-first-below-requires t)
+    (seen-row-at-requires t)
+    (seen-cast-r t)
     (seen-below-requires t)
-    (seen-put-site-requires-2 t)
-    (seen-same-length-4 t)
-    (seen-same-length-5 t)
-    (seen-same-length-6 t)
-    (seen-returns-2 t)
+    (seen-loop-less t)
+    (seen-loop-again t)

@@ -4,6 +4,9 @@ use borrow.Author.Needs.{needs}
 use Rattle.plan.proofs.walk.start.Statement.{statement}
 use Rattle.plan.proofs.walk.start.Tie as tie
 
+row-at-requires : tie.Need-row-at-requires
+row-at-requires c κs = search needs
+
 enum-told : tie.Need-enum-told
 enum-told c = search needs
 
@@ -17,10 +20,10 @@ put-pin-requires : tie.Need-put-pin-requires
 put-pin-requires c κs = search needs
 
 returns : tie.Need-returns
-returns c = rw (c .enum-told .given .1) (refl, refl)
+returns c = rw (← (c .before .before .row-at .ensures), c .enum-told .given .1) refl
 
 returns-2 : tie.Need-returns-2
-returns-2 c = rw (c .enum-told2 .given .1) (refl, refl)
+returns-2 c = rw (← (c .before .before .row-at .ensures), c .enum-told2 .given .1) refl
 
 same-length : tie.Need-same-length
 same-length c = search needs
@@ -32,12 +35,13 @@ same-length-3 : tie.Need-same-length-3
 same-length-3 c = search needs
 
 returns-3 : tie.Need-returns-3
-returns-3 c = rw (c .before .before .before .before .before .before .before .before .before .before .before .before .kind .given .1) (refl, c .before .before .before .before .before .put-pin .ensures)
+returns-3 c = rw (← (c .before .before .before .before .before .before .before .before .before .before .before .before .before .before .row-at .ensures), c .before .before .before .before .before .before .before .before .before .before .before .before .kind .given .1) (c .before .before .before .before .before .put-pin .ensures)
 
 pub start-spec : {M : Type 1} → statement M
 start-spec =
     tie.close
     (tie.spec
+    row-at-requires
     enum-told
     enum-told-2
     enum-known-kind
