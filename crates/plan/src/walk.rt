@@ -122,6 +122,35 @@ pub fn put_site(
     n
 }
 
+// A sink's list, made at a place: its pin, and its site on it. The site is tested here and in `put_site`, so that a row without one costs no call.
+pub fn pin_list(
+    rows: &[u32],
+    due: &[i64],
+    types: &[u32],
+    count: usize,
+    links: &[u16],
+    loads: &mut [u32],
+    times: &mut [i64],
+    words: &mut [u64],
+    n: usize,
+    row: usize,
+    at: usize,
+) -> usize
+    requires { ⌜ Given (now rows) (now due) (now types) count n (now links) ⌝ }
+    requires { ⌜ (row < n) × (getD (now links) row 0 ≡ n) ⌝ }
+    requires { ⌜ Room (now loads) (now times) (now words) ⌝ }
+    requires { ⌜ HasRoom count at (n - (row + 1)) (seenAt (rowsFrom (now rows) (now due) 0 n) row) ⌝ }
+    ensures { λ len. ⌜ Made (repeatersFrom (now (types .entry)) 0 count) (seenAt (rowsFrom (now (rows .entry)) (now (due .entry)) 0 n) row) (run (now (loads .entry)) (now (times .entry)) (now (words .entry))) (run (now (loads .exit)) (now (times .exit)) (now (words .exit))) at len ⌝ }
+{
+    start(rows, due, loads, times, words, row, at);
+    let x = rows::row_at(rows, due, row);
+    if x.site {
+        let k = rows::sites_before(links, row);
+        return lists::sites::put_types(types, count, loads, times, words, at, 1, k);
+    }
+    1
+}
+
 // From a row down along last rows below to one that has none.
 pub fn deepest(links: &[u16], n: usize, row: usize) -> usize
     requires { ⌜ (row < n) × (n ≤ rowsRoom) ⌝ }
@@ -229,8 +258,7 @@ pub fn below(
         }
         let d = rows::backward::last_below(links, c);
         if d == n {
-            start(rows, due, loads, times, words, c, at + m);
-            let own = put_site(
+            let own = pin_list(
                 rows,
                 due,
                 types,
@@ -239,9 +267,9 @@ pub fn below(
                 loads,
                 times,
                 words,
+                n,
                 c,
                 at + m,
-                1,
             );
             m = hang(rows, due, loads, times, words, c, at, m, own);
         } else {

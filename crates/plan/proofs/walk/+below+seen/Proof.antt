@@ -25,6 +25,7 @@ use Rattle.plan.proofs.walk.seen.Kinds as seen-kinds
 use Rattle.plan.proofs.walk.+below+seen.Lts-seen as seen-lts
 use Rattle.plan.proofs.walk.deepest.Reads as deepest-reads
 use Rattle.plan.proofs.walk.hang.Reads as hang-reads
+use Rattle.plan.proofs.walk.pin_list.Reads as pin-list-reads
 use Rattle.plan.proofs.walk.put_site.Reads as put-site-reads
 use Rattle.plan.proofs.walk.start.Reads as start-reads
 use Rattle.plan.proofs.walk.wire_row.Reads as wire-row-reads
@@ -66,10 +67,8 @@ below-last-below-requires : (t : ℕ) → below-lts.Need-last-below-requires (
   wire-row-reads.Learnt,
   previous-beside-reads.Asked,
   previous-beside-reads.Learnt,
-  start-reads.Asked,
-  start-reads.Learnt,
-  put-site-reads.Asked,
-  put-site-reads.Learnt,
+  pin-list-reads.Asked,
+  pin-list-reads.Learnt,
   hang-reads.Asked,
   hang-reads.Learnt,
   seen-below t,
@@ -86,10 +85,8 @@ below-wire-row-requires : (t : ℕ) → below-lts.Need-wire-row-requires (
   wire-row-reads.Learnt,
   previous-beside-reads.Asked,
   previous-beside-reads.Learnt,
-  start-reads.Asked,
-  start-reads.Learnt,
-  put-site-reads.Asked,
-  put-site-reads.Learnt,
+  pin-list-reads.Asked,
+  pin-list-reads.Learnt,
   hang-reads.Asked,
   hang-reads.Learnt,
   seen-below t,
@@ -111,10 +108,8 @@ below-loop-holds : (t : ℕ) → below-lts.Need-loop-holds (
   wire-row-reads.Learnt,
   previous-beside-reads.Asked,
   previous-beside-reads.Learnt,
-  start-reads.Asked,
-  start-reads.Learnt,
-  put-site-reads.Asked,
-  put-site-reads.Learnt,
+  pin-list-reads.Asked,
+  pin-list-reads.Learnt,
   hang-reads.Asked,
   hang-reads.Learnt,
   seen-below t,
@@ -138,10 +133,8 @@ below-previous-beside-requires : (t : ℕ) → below-lts.Need-previous-beside-re
   wire-row-reads.Learnt,
   previous-beside-reads.Asked,
   previous-beside-reads.Learnt,
-  start-reads.Asked,
-  start-reads.Learnt,
-  put-site-reads.Asked,
-  put-site-reads.Learnt,
+  pin-list-reads.Asked,
+  pin-list-reads.Learnt,
   hang-reads.Asked,
   hang-reads.Learnt,
   seen-below t,
@@ -160,10 +153,8 @@ below-same-length : (t : ℕ) → below-lts.Need-same-length (
   wire-row-reads.Learnt,
   previous-beside-reads.Asked,
   previous-beside-reads.Learnt,
-  start-reads.Asked,
-  start-reads.Learnt,
-  put-site-reads.Asked,
-  put-site-reads.Learnt,
+  pin-list-reads.Asked,
+  pin-list-reads.Learnt,
   hang-reads.Asked,
   hang-reads.Learnt,
   seen-below t,
@@ -178,10 +169,8 @@ below-same-length-2 : (t : ℕ) → below-lts.Need-same-length-2 (
   wire-row-reads.Learnt,
   previous-beside-reads.Asked,
   previous-beside-reads.Learnt,
-  start-reads.Asked,
-  start-reads.Learnt,
-  put-site-reads.Asked,
-  put-site-reads.Learnt,
+  pin-list-reads.Asked,
+  pin-list-reads.Learnt,
   hang-reads.Asked,
   hang-reads.Learnt,
   seen-below t,
@@ -196,10 +185,8 @@ below-same-length-3 : (t : ℕ) → below-lts.Need-same-length-3 (
   wire-row-reads.Learnt,
   previous-beside-reads.Asked,
   previous-beside-reads.Learnt,
-  start-reads.Asked,
-  start-reads.Learnt,
-  put-site-reads.Asked,
-  put-site-reads.Learnt,
+  pin-list-reads.Asked,
+  pin-list-reads.Learnt,
   hang-reads.Asked,
   hang-reads.Learnt,
   seen-below t,
@@ -214,10 +201,8 @@ below-returns : (t : ℕ) → below-lts.Need-returns (
   wire-row-reads.Learnt,
   previous-beside-reads.Asked,
   previous-beside-reads.Learnt,
-  start-reads.Asked,
-  start-reads.Learnt,
-  put-site-reads.Asked,
-  put-site-reads.Learnt,
+  pin-list-reads.Asked,
+  pin-list-reads.Learnt,
   hang-reads.Asked,
   hang-reads.Learnt,
   seen-below t,
@@ -237,10 +222,8 @@ below-last-below-requires-2 : (t : ℕ) → below-lts.Need-last-below-requires-2
   wire-row-reads.Learnt,
   previous-beside-reads.Asked,
   previous-beside-reads.Learnt,
-  start-reads.Asked,
-  start-reads.Learnt,
-  put-site-reads.Asked,
-  put-site-reads.Learnt,
+  pin-list-reads.Asked,
+  pin-list-reads.Learnt,
   hang-reads.Asked,
   hang-reads.Learnt,
   seen-below t,
@@ -254,41 +237,37 @@ below-last-below-requires-2 t c κs =
     let w = run (l .loads) (l .times) (l .words) in
     (omega (arith, p .0 .standing .few, sibling-more (a .rows .now) (a .due .now) (a .types .now) (a .count) (a .n) (a .links .now) (p .0) (a .p) (a .at) (p .1 .0 .0) (p .1 .1 .1 .0) (l .c) _ w (l .m) (l .inv .1 .0) (y .result) (y .ensures) (c .if1 .left)), p .0 .linked .long)
 
-below-add-start : (t : ℕ) → below-lts.Need-add-start (
+below-add-pin-list : (t : ℕ) → below-lts.Need-add-pin-list (
   last-below-reads.Asked,
   last-below-reads.Learnt,
   wire-row-reads.Asked,
   wire-row-reads.Learnt,
   previous-beside-reads.Asked,
   previous-beside-reads.Learnt,
-  start-reads.Asked,
-  start-reads.Learnt,
-  put-site-reads.Asked,
-  put-site-reads.Learnt,
+  pin-list-reads.Asked,
+  pin-list-reads.Learnt,
   hang-reads.Asked,
   hang-reads.Learnt,
   seen-below t,
   seen.Post,
 ) (below-at t) below.Post below-Inv-loop below-μ-loop
-below-add-start t c = omega (arith, c .before .before .before .before .before .before .before .loop .inv .1 .0 .made .fits)
+below-add-pin-list t c = omega (arith, c .before .before .before .before .before .before .before .loop .inv .1 .0 .made .fits)
 
-below-start-requires : (t : ℕ) → below-lts.Need-start-requires (
+below-pin-list-requires : (t : ℕ) → below-lts.Need-pin-list-requires (
   last-below-reads.Asked,
   last-below-reads.Learnt,
   wire-row-reads.Asked,
   wire-row-reads.Learnt,
   previous-beside-reads.Asked,
   previous-beside-reads.Learnt,
-  start-reads.Asked,
-  start-reads.Learnt,
-  put-site-reads.Asked,
-  put-site-reads.Learnt,
+  pin-list-reads.Asked,
+  pin-list-reads.Learnt,
   hang-reads.Asked,
   hang-reads.Learnt,
   seen-below t,
   seen.Post,
 ) (below-at t) below.Post below-Inv-loop below-μ-loop
-below-start-requires t c κs =
+below-pin-list-requires t c κs =
     let a = c .before .before .before .before .before .before .before .before .before .before .before .before .before .before .before .before .before .before .before .before .before .before .before .args in
     let p = c .before .before .before .before .before .before .before .before .before .before .before .before .before .before .before .before .before .before .before .before .before .before .before .pre .1 in
     let l = c .before .before .before .before .before .before .before .loop in
@@ -296,58 +275,8 @@ below-start-requires t c κs =
     let w = run (l .loads) (l .times) (l .words) in
     let long = room-run workRoom (l .inv .0) (omega arith) in
     let h = sibling-more (a .rows .now) (a .due .now) (a .types .now) (a .count) (a .n) (a .links .now) (p .0) (a .p) (a .at) (p .1 .0 .0) (p .1 .1 .1 .0) (l .c) _ w (l .m) (l .inv .1 .0) (y .result) (y .ensures) (c .before .before .before .before .before .if1 .left) in
-    let g = sibling-room (a .rows .now) (a .due .now) (a .types .now) (a .count) (a .n) (a .links .now) (p .0) (a .p) (a .at) (p .1 .0 .0) (p .1 .1 .1 .0) (l .c) _ w (l .m) (l .inv .1 .0) (y .result) (y .ensures) (c .before .before .before .before .before .if1 .left) long in
-    (row-there (a .rows .now) (a .due .now) (a .types .now) (a .count) (a .n) (a .links .now) (p .0) (y .result) h, (l .inv .0, start-fits (a .rows .now) (a .due .now) (a .types .now) (a .count) (a .n) (a .links .now) (p .0) (y .result) (a .at + l .m) h g (y .result) (here refl)))
-
-below-add-put-site : (t : ℕ) → below-lts.Need-add-put-site (
-  last-below-reads.Asked,
-  last-below-reads.Learnt,
-  wire-row-reads.Asked,
-  wire-row-reads.Learnt,
-  previous-beside-reads.Asked,
-  previous-beside-reads.Learnt,
-  start-reads.Asked,
-  start-reads.Learnt,
-  put-site-reads.Asked,
-  put-site-reads.Learnt,
-  hang-reads.Asked,
-  hang-reads.Learnt,
-  seen-below t,
-  seen.Post,
-) (below-at t) below.Post below-Inv-loop below-μ-loop
-below-add-put-site t c = omega (arith, c .before .before .before .before .before .before .before .before .before .before .before .before .before .before .before .before .loop .inv .1 .0 .made .fits)
-
-below-put-site-requires : (t : ℕ) → below-lts.Need-put-site-requires (
-  last-below-reads.Asked,
-  last-below-reads.Learnt,
-  wire-row-reads.Asked,
-  wire-row-reads.Learnt,
-  previous-beside-reads.Asked,
-  previous-beside-reads.Learnt,
-  start-reads.Asked,
-  start-reads.Learnt,
-  put-site-reads.Asked,
-  put-site-reads.Learnt,
-  hang-reads.Asked,
-  hang-reads.Learnt,
-  seen-below t,
-  seen.Post,
-) (below-at t) below.Post below-Inv-loop below-μ-loop
-below-put-site-requires t c κs =
-    let a = c .before .before .before .before .before .before .before .before .before .before .before .before .before .before .before .before .before .before .before .before .before .before .before .before .before .before .before .before .before .before .before .before .args in
-    let p = c .before .before .before .before .before .before .before .before .before .before .before .before .before .before .before .before .before .before .before .before .before .before .before .before .before .before .before .before .before .before .before .before .pre .1 in
-    let l = c .before .before .before .before .before .before .before .before .before .before .before .before .before .before .before .before .loop in
-    let y = c .before .before .before .before .before .before .before .before .before .before .before .before .before .before .before .previous-beside in
-    let w = run (l .loads) (l .times) (l .words) in
-    let long = room-run workRoom (l .inv .0) (omega arith) in
-    let h = sibling-more (a .rows .now) (a .due .now) (a .types .now) (a .count) (a .n) (a .links .now) (p .0) (a .p) (a .at) (p .1 .0 .0) (p .1 .1 .1 .0) (l .c) _ w (l .m) (l .inv .1 .0) (y .result) (y .ensures) (c .before .before .before .before .before .before .before .before .before .before .before .before .before .before .if1 .left) in
-    let g = sibling-room (a .rows .now) (a .due .now) (a .types .now) (a .count) (a .n) (a .links .now) (p .0) (a .p) (a .at) (p .1 .0 .0) (p .1 .1 .1 .0) (l .c) _ w (l .m) (l .inv .1 .0) (y .result) (y .ensures) (c .before .before .before .before .before .before .before .before .before .before .before .before .before .before .if1 .left) long in
-    let e : getD (a .links .now) (y .result) 0 ≡ a .n = sym (c .before .before .before .before .before .before .before .before .before .before .before .before .before .last-below2 .ensures) ∙ c .before .before .before .before .before .before .before .before .before .before .before .before .if2 .taken in
-    let u = c .before .before .before .before .before .before .before .before .start in
-    let w₁ = run (u .last .1 .1 .0) (u .last .1 .1 .1 .0) (u .last .1 .1 .1 .1 .0) in
-    let r₁ : Room (u .last .1 .1 .0) (u .last .1 .1 .1 .0) (u .last .1 .1 .1 .1 .0) = room-kept _ _ _ (l .inv .0) (c .before .before .before .before .before .before .before .loads2 .given) (c .before .before .before .before .before .times2 .given) (c .before .before .before .before .words2 .given) in
-    let d = started (a .rows .now) (a .due .now) (a .types .now) (a .count) (a .n) (a .links .now) (p .0) (y .result) (a .at + l .m) h g (y .result) (here refl) w w₁ long e (u .ensures) in
-    (row-there (a .rows .now) (a .due .now) (a .types .now) (a .count) (a .n) (a .links .now) (p .0) (y .result) h, (typed (a .rows .now) (a .due .now) (a .types .now) (a .count) (a .n) (a .links .now) (p .0), (p .0 .linked .long, (r₁, driven-sited (a .rows .now) (a .due .now) (a .types .now) (a .count) (a .n) (a .links .now) (p .0) (y .result) (a .at + l .m) h g (y .result) (here refl) w w₁ 1 d))))
+    let e : getD (a .links .now) (y .result) 0 ≡ a .n = sym (c .before .before .before .before .last-below2 .ensures) ∙ c .before .before .before .if2 .taken in
+    (p .0, ((h, e), (l .inv .0, sibling-room (a .rows .now) (a .due .now) (a .types .now) (a .count) (a .n) (a .links .now) (p .0) (a .p) (a .at) (p .1 .0 .0) (p .1 .1 .1 .0) (l .c) _ w (l .m) (l .inv .1 .0) (y .result) (y .ensures) (c .before .before .before .before .before .if1 .left) long)))
 
 below-hang-requires : (t : ℕ) → below-lts.Need-hang-requires (
   last-below-reads.Asked,
@@ -356,34 +285,24 @@ below-hang-requires : (t : ℕ) → below-lts.Need-hang-requires (
   wire-row-reads.Learnt,
   previous-beside-reads.Asked,
   previous-beside-reads.Learnt,
-  start-reads.Asked,
-  start-reads.Learnt,
-  put-site-reads.Asked,
-  put-site-reads.Learnt,
+  pin-list-reads.Asked,
+  pin-list-reads.Learnt,
   hang-reads.Asked,
   hang-reads.Learnt,
   seen-below t,
   seen.Post,
 ) (below-at t) below.Post below-Inv-loop below-μ-loop
 below-hang-requires t c κs =
-    let a = c .before .before .before .before .before .before .before .before .before .before .before .before .before .before .before .before .before .before .before .before .before .before .before .before .before .before .before .before .before .before .before .before .before .before .before .before .before .before .before .before .before .args in
-    let p = c .before .before .before .before .before .before .before .before .before .before .before .before .before .before .before .before .before .before .before .before .before .before .before .before .before .before .before .before .before .before .before .before .before .before .before .before .before .before .before .before .before .pre .1 in
-    let l = c .before .before .before .before .before .before .before .before .before .before .before .before .before .before .before .before .before .before .before .before .before .before .before .before .before .loop in
-    let y = c .before .before .before .before .before .before .before .before .before .before .before .before .before .before .before .before .before .before .before .before .before .before .before .before .previous-beside in
+    let a = c .before .before .before .before .before .before .before .before .before .before .before .before .before .before .before .before .before .before .before .before .before .before .before .before .before .before .before .before .before .before .before .before .args in
+    let p = c .before .before .before .before .before .before .before .before .before .before .before .before .before .before .before .before .before .before .before .before .before .before .before .before .before .before .before .before .before .before .before .before .pre .1 in
+    let l = c .before .before .before .before .before .before .before .before .before .before .before .before .before .before .before .before .loop in
+    let y = c .before .before .before .before .before .before .before .before .before .before .before .before .before .before .before .previous-beside in
+    let o = c .before .before .before .before .before .before .before .before .pin-list in
     let w = run (l .loads) (l .times) (l .words) in
     let long = room-run workRoom (l .inv .0) (omega arith) in
-    let h = sibling-more (a .rows .now) (a .due .now) (a .types .now) (a .count) (a .n) (a .links .now) (p .0) (a .p) (a .at) (p .1 .0 .0) (p .1 .1 .1 .0) (l .c) _ w (l .m) (l .inv .1 .0) (y .result) (y .ensures) (c .before .before .before .before .before .before .before .before .before .before .before .before .before .before .before .before .before .before .before .before .before .before .before .if1 .left) in
-    let g = sibling-room (a .rows .now) (a .due .now) (a .types .now) (a .count) (a .n) (a .links .now) (p .0) (a .p) (a .at) (p .1 .0 .0) (p .1 .1 .1 .0) (l .c) _ w (l .m) (l .inv .1 .0) (y .result) (y .ensures) (c .before .before .before .before .before .before .before .before .before .before .before .before .before .before .before .before .before .before .before .before .before .before .before .if1 .left) long in
-    let e : getD (a .links .now) (y .result) 0 ≡ a .n = sym (c .before .before .before .before .before .before .before .before .before .before .before .before .before .before .before .before .before .before .before .before .before .before .last-below2 .ensures) ∙ c .before .before .before .before .before .before .before .before .before .before .before .before .before .before .before .before .before .before .before .before .before .if2 .taken in
-    let u = c .before .before .before .before .before .before .before .before .before .before .before .before .before .before .before .before .before .start in
-    let w₁ = run (u .last .1 .1 .0) (u .last .1 .1 .1 .0) (u .last .1 .1 .1 .1 .0) in
-    let r₁ : Room (u .last .1 .1 .0) (u .last .1 .1 .1 .0) (u .last .1 .1 .1 .1 .0) = room-kept _ _ _ (l .inv .0) (c .before .before .before .before .before .before .before .before .before .before .before .before .before .before .before .before .loads2 .given) (c .before .before .before .before .before .before .before .before .before .before .before .before .before .before .times2 .given) (c .before .before .before .before .before .before .before .before .before .before .before .before .before .words2 .given) in
-    let d = started (a .rows .now) (a .due .now) (a .types .now) (a .count) (a .n) (a .links .now) (p .0) (y .result) (a .at + l .m) h g (y .result) (here refl) w w₁ long e (u .ensures) in
-    let v = c .before .before .before .before .before .before .before .before .put-site in
-    let w₂ = run (v .last .1 .1 .1 .1 .1 .0) (v .last .1 .1 .1 .1 .1 .1 .0) (v .last .1 .1 .1 .1 .1 .1 .1 .0) in
-    let r₂ : Room (v .last .1 .1 .1 .1 .1 .0) (v .last .1 .1 .1 .1 .1 .1 .0) (v .last .1 .1 .1 .1 .1 .1 .1 .0) = room-kept _ _ _ r₁ (c .before .before .before .before .before .before .before .loads3 .given) (c .before .before .before .before .before .times3 .given) (c .before .before .before .before .words3 .given) in
-    let o = site-made (a .rows .now) (a .due .now) (a .types .now) (a .count) (a .n) (a .links .now) (p .0) (y .result) (a .at + l .m) h g (y .result) (here refl) w w₁ 1 d w₂ (v .result) (v .ensures) in
-    (row-there (a .rows .now) (a .due .now) (a .types .now) (a .count) (a .n) (a .links .now) (p .0) (y .result) h, (r₂, (ohms-in (a .rows .now) (a .due .now) (a .types .now) (a .count) (a .n) (a .links .now) (p .0) (y .result) h, sibling-hang (a .rows .now) (a .due .now) (a .types .now) (a .count) (a .n) (a .links .now) (p .0) (a .p) (a .at) (p .1 .0 .0) (p .1 .1 .1 .0) (l .c) _ w (l .m) (l .inv .1 .0) (y .result) (y .ensures) (c .before .before .before .before .before .before .before .before .before .before .before .before .before .before .before .before .before .before .before .before .before .before .before .if1 .left) long w₂ (room-run workRoom r₂ (omega arith)) (v .result) o)))
+    let h = sibling-more (a .rows .now) (a .due .now) (a .types .now) (a .count) (a .n) (a .links .now) (p .0) (a .p) (a .at) (p .1 .0 .0) (p .1 .1 .1 .0) (l .c) _ w (l .m) (l .inv .1 .0) (y .result) (y .ensures) (c .before .before .before .before .before .before .before .before .before .before .before .before .before .before .if1 .left) in
+    let r₂ : Room (o .last .1 .1 .1 .1 .1 .0) (o .last .1 .1 .1 .1 .1 .1 .0) (o .last .1 .1 .1 .1 .1 .1 .1 .0) = room-kept _ _ _ (l .inv .0) (c .before .before .before .before .before .before .before .loads2 .given) (c .before .before .before .before .before .times2 .given) (c .before .before .before .before .words2 .given) in
+    (row-there (a .rows .now) (a .due .now) (a .types .now) (a .count) (a .n) (a .links .now) (p .0) (y .result) h, (r₂, (ohms-in (a .rows .now) (a .due .now) (a .types .now) (a .count) (a .n) (a .links .now) (p .0) (y .result) h, sibling-hang (a .rows .now) (a .due .now) (a .types .now) (a .count) (a .n) (a .links .now) (p .0) (a .p) (a .at) (p .1 .0 .0) (p .1 .1 .1 .0) (l .c) _ w (l .m) (l .inv .1 .0) (y .result) (y .ensures) (c .before .before .before .before .before .before .before .before .before .before .before .before .before .before .if1 .left) long (run (o .last .1 .1 .1 .1 .1 .0) (o .last .1 .1 .1 .1 .1 .1 .0) (o .last .1 .1 .1 .1 .1 .1 .1 .0)) (room-run workRoom r₂ (omega arith)) (o .result) (o .ensures))))
 
 below-loop-less : (t : ℕ) → below-lts.Need-loop-less (
   last-below-reads.Asked,
@@ -392,21 +311,19 @@ below-loop-less : (t : ℕ) → below-lts.Need-loop-less (
   wire-row-reads.Learnt,
   previous-beside-reads.Asked,
   previous-beside-reads.Learnt,
-  start-reads.Asked,
-  start-reads.Learnt,
-  put-site-reads.Asked,
-  put-site-reads.Learnt,
+  pin-list-reads.Asked,
+  pin-list-reads.Learnt,
   hang-reads.Asked,
   hang-reads.Learnt,
   seen-below t,
   seen.Post,
 ) (below-at t) below.Post below-Inv-loop below-μ-loop
 below-loop-less t c =
-    let a = c .before .before .before .before .before .before .before .before .before .before .before .before .before .before .before .before .before .before .before .before .before .before .before .before .before .before .before .before .before .before .before .before .before .before .before .before .before .before .before .before .before .before .before .before .before .before .before .args in
-    let p = c .before .before .before .before .before .before .before .before .before .before .before .before .before .before .before .before .before .before .before .before .before .before .before .before .before .before .before .before .before .before .before .before .before .before .before .before .before .before .before .before .before .before .before .before .before .before .before .pre .1 in
-    let l = c .before .before .before .before .before .before .before .before .before .before .before .before .before .before .before .before .before .before .before .before .before .before .before .before .before .before .before .before .before .before .before .loop in
-    let y = c .before .before .before .before .before .before .before .before .before .before .before .before .before .before .before .before .before .before .before .before .before .before .before .before .before .before .before .before .before .before .previous-beside in
-    sibling-earlier (a .rows .now) (a .due .now) (a .types .now) (a .count) (a .n) (a .links .now) (p .0) (a .p) (a .at) (p .1 .0 .0) (p .1 .1 .1 .0) (l .c) _ (run (l .loads) (l .times) (l .words)) (l .m) (l .inv .1 .0) (y .result) (y .ensures) (c .before .before .before .before .before .before .before .before .before .before .before .before .before .before .before .before .before .before .before .before .before .before .before .before .before .before .before .before .before .if1 .left)
+    let a = c .before .before .before .before .before .before .before .before .before .before .before .before .before .before .before .before .before .before .before .before .before .before .before .before .before .before .before .before .before .before .before .before .before .before .before .before .before .before .args in
+    let p = c .before .before .before .before .before .before .before .before .before .before .before .before .before .before .before .before .before .before .before .before .before .before .before .before .before .before .before .before .before .before .before .before .before .before .before .before .before .before .pre .1 in
+    let l = c .before .before .before .before .before .before .before .before .before .before .before .before .before .before .before .before .before .before .before .before .before .before .loop in
+    let y = c .before .before .before .before .before .before .before .before .before .before .before .before .before .before .before .before .before .before .before .before .before .previous-beside in
+    sibling-earlier (a .rows .now) (a .due .now) (a .types .now) (a .count) (a .n) (a .links .now) (p .0) (a .p) (a .at) (p .1 .0 .0) (p .1 .1 .1 .0) (l .c) _ (run (l .loads) (l .times) (l .words)) (l .m) (l .inv .1 .0) (y .result) (y .ensures) (c .before .before .before .before .before .before .before .before .before .before .before .before .before .before .before .before .before .before .before .before .if1 .left)
 
 below-loop-again : (t : ℕ) → below-lts.Need-loop-again (
   last-below-reads.Asked,
@@ -415,37 +332,26 @@ below-loop-again : (t : ℕ) → below-lts.Need-loop-again (
   wire-row-reads.Learnt,
   previous-beside-reads.Asked,
   previous-beside-reads.Learnt,
-  start-reads.Asked,
-  start-reads.Learnt,
-  put-site-reads.Asked,
-  put-site-reads.Learnt,
+  pin-list-reads.Asked,
+  pin-list-reads.Learnt,
   hang-reads.Asked,
   hang-reads.Learnt,
   seen-below t,
   seen.Post,
 ) (below-at t) below.Post below-Inv-loop below-μ-loop
 below-loop-again t c =
-    let a = c .before .before .before .before .before .before .before .before .before .before .before .before .before .before .before .before .before .before .before .before .before .before .before .before .before .before .before .before .before .before .before .before .before .before .before .before .before .before .before .before .before .before .before .before .before .before .before .args in
-    let p = c .before .before .before .before .before .before .before .before .before .before .before .before .before .before .before .before .before .before .before .before .before .before .before .before .before .before .before .before .before .before .before .before .before .before .before .before .before .before .before .before .before .before .before .before .before .before .before .pre .1 in
-    let l = c .before .before .before .before .before .before .before .before .before .before .before .before .before .before .before .before .before .before .before .before .before .before .before .before .before .before .before .before .before .before .before .loop in
-    let y = c .before .before .before .before .before .before .before .before .before .before .before .before .before .before .before .before .before .before .before .before .before .before .before .before .before .before .before .before .before .before .previous-beside in
+    let a = c .before .before .before .before .before .before .before .before .before .before .before .before .before .before .before .before .before .before .before .before .before .before .before .before .before .before .before .before .before .before .before .before .before .before .before .before .before .before .args in
+    let p = c .before .before .before .before .before .before .before .before .before .before .before .before .before .before .before .before .before .before .before .before .before .before .before .before .before .before .before .before .before .before .before .before .before .before .before .before .before .before .pre .1 in
+    let l = c .before .before .before .before .before .before .before .before .before .before .before .before .before .before .before .before .before .before .before .before .before .before .loop in
+    let y = c .before .before .before .before .before .before .before .before .before .before .before .before .before .before .before .before .before .before .before .before .before .previous-beside in
+    let o = c .before .before .before .before .before .before .before .before .before .before .before .before .before .before .pin-list in
+    let u = c .before .before .before .before .before .hang in
     let w = run (l .loads) (l .times) (l .words) in
     let long = room-run workRoom (l .inv .0) (omega arith) in
-    let h = sibling-more (a .rows .now) (a .due .now) (a .types .now) (a .count) (a .n) (a .links .now) (p .0) (a .p) (a .at) (p .1 .0 .0) (p .1 .1 .1 .0) (l .c) _ w (l .m) (l .inv .1 .0) (y .result) (y .ensures) (c .before .before .before .before .before .before .before .before .before .before .before .before .before .before .before .before .before .before .before .before .before .before .before .before .before .before .before .before .before .if1 .left) in
-    let g = sibling-room (a .rows .now) (a .due .now) (a .types .now) (a .count) (a .n) (a .links .now) (p .0) (a .p) (a .at) (p .1 .0 .0) (p .1 .1 .1 .0) (l .c) _ w (l .m) (l .inv .1 .0) (y .result) (y .ensures) (c .before .before .before .before .before .before .before .before .before .before .before .before .before .before .before .before .before .before .before .before .before .before .before .before .before .before .before .before .before .if1 .left) long in
-    let e : getD (a .links .now) (y .result) 0 ≡ a .n = sym (c .before .before .before .before .before .before .before .before .before .before .before .before .before .before .before .before .before .before .before .before .before .before .before .before .before .before .before .before .last-below2 .ensures) ∙ c .before .before .before .before .before .before .before .before .before .before .before .before .before .before .before .before .before .before .before .before .before .before .before .before .before .before .before .if2 .taken in
-    let u = c .before .before .before .before .before .before .before .before .before .before .before .before .before .before .before .before .before .before .before .before .before .before .before .start in
-    let w₁ = run (u .last .1 .1 .0) (u .last .1 .1 .1 .0) (u .last .1 .1 .1 .1 .0) in
-    let r₁ : Room (u .last .1 .1 .0) (u .last .1 .1 .1 .0) (u .last .1 .1 .1 .1 .0) = room-kept _ _ _ (l .inv .0) (c .before .before .before .before .before .before .before .before .before .before .before .before .before .before .before .before .before .before .before .before .before .before .loads2 .given) (c .before .before .before .before .before .before .before .before .before .before .before .before .before .before .before .before .before .before .before .before .times2 .given) (c .before .before .before .before .before .before .before .before .before .before .before .before .before .before .before .before .before .before .before .words2 .given) in
-    let d = started (a .rows .now) (a .due .now) (a .types .now) (a .count) (a .n) (a .links .now) (p .0) (y .result) (a .at + l .m) h g (y .result) (here refl) w w₁ long e (u .ensures) in
-    let v = c .before .before .before .before .before .before .before .before .before .before .before .before .before .before .put-site in
-    let w₂ = run (v .last .1 .1 .1 .1 .1 .0) (v .last .1 .1 .1 .1 .1 .1 .0) (v .last .1 .1 .1 .1 .1 .1 .1 .0) in
-    let r₂ : Room (v .last .1 .1 .1 .1 .1 .0) (v .last .1 .1 .1 .1 .1 .1 .0) (v .last .1 .1 .1 .1 .1 .1 .1 .0) = room-kept _ _ _ r₁ (c .before .before .before .before .before .before .before .before .before .before .before .before .before .loads3 .given) (c .before .before .before .before .before .before .before .before .before .before .before .times3 .given) (c .before .before .before .before .before .before .before .before .before .before .words3 .given) in
-    let o = site-made (a .rows .now) (a .due .now) (a .types .now) (a .count) (a .n) (a .links .now) (p .0) (y .result) (a .at + l .m) h g (y .result) (here refl) w w₁ 1 d w₂ (v .result) (v .ensures) in
-    let x = c .before .before .before .before .before .hang in
-    let s = sibling-made (a .rows .now) (a .due .now) (a .types .now) (a .count) (a .n) (a .links .now) (p .0) (a .p) (a .at) (p .1 .0 .0) (p .1 .1 .1 .0) (l .c) _ w (l .m) (l .inv .1 .0) (y .result) (y .ensures) (c .before .before .before .before .before .before .before .before .before .before .before .before .before .before .before .before .before .before .before .before .before .before .before .before .before .before .before .before .before .if1 .left) long w₂ (room-run workRoom r₂ (omega arith)) (v .result) o (run (x .last .1 .1 .0) (x .last .1 .1 .1 .0) (x .last .1 .1 .1 .1 .0)) (x .result) (x .ensures) in
+    let r₂ : Room (o .last .1 .1 .1 .1 .1 .0) (o .last .1 .1 .1 .1 .1 .1 .0) (o .last .1 .1 .1 .1 .1 .1 .1 .0) = room-kept _ _ _ (l .inv .0) (c .before .before .before .before .before .before .before .before .before .before .before .before .before .loads2 .given) (c .before .before .before .before .before .before .before .before .before .before .before .times2 .given) (c .before .before .before .before .before .before .before .before .before .before .words2 .given) in
+    let s = sibling-made (a .rows .now) (a .due .now) (a .types .now) (a .count) (a .n) (a .links .now) (p .0) (a .p) (a .at) (p .1 .0 .0) (p .1 .1 .1 .0) (l .c) _ w (l .m) (l .inv .1 .0) (y .result) (y .ensures) (c .before .before .before .before .before .before .before .before .before .before .before .before .before .before .before .before .before .before .before .before .if1 .left) long (run (o .last .1 .1 .1 .1 .1 .0) (o .last .1 .1 .1 .1 .1 .1 .0) (o .last .1 .1 .1 .1 .1 .1 .1 .0)) (room-run workRoom r₂ (omega arith)) (o .result) (o .ensures) (run (u .last .1 .1 .0) (u .last .1 .1 .1 .0) (u .last .1 .1 .1 .1 .0)) (u .result) (u .ensures) in
     let k = l .inv .1 .1 in
-    (room-kept _ _ _ r₂ (c .before .before .before .before .loads4 .given) (c .before .before .times4 .given) (c .before .words4 .given), (s, record { loads = c .before .before .before .before .loads4 .given ∙ c .before .before .before .before .before .before .before .before .before .before .before .before .before .loads3 .given ∙ c .before .before .before .before .before .before .before .before .before .before .before .before .before .before .before .before .before .before .before .before .before .before .loads2 .given ∙ k .loads; times = c .before .before .times4 .given ∙ c .before .before .before .before .before .before .before .before .before .before .before .times3 .given ∙ c .before .before .before .before .before .before .before .before .before .before .before .before .before .before .before .before .before .before .before .before .times2 .given ∙ k .times; words = c .before .words4 .given ∙ c .before .before .before .before .before .before .before .before .before .before .words3 .given ∙ c .before .before .before .before .before .before .before .before .before .before .before .before .before .before .before .before .before .before .before .words2 .given ∙ k .words }))
+    (room-kept _ _ _ r₂ (c .before .before .before .before .loads3 .given) (c .before .before .times3 .given) (c .before .words3 .given), (s, record { loads = c .before .before .before .before .loads3 .given ∙ c .before .before .before .before .before .before .before .before .before .before .before .before .before .loads2 .given ∙ k .loads; times = c .before .before .times3 .given ∙ c .before .before .before .before .before .before .before .before .before .before .before .times2 .given ∙ k .times; words = c .before .words3 .given ∙ c .before .before .before .before .before .before .before .before .before .before .words2 .given ∙ k .words }))
 
 below-add-seen : (t : ℕ) → below-lts.Need-add-seen (
   last-below-reads.Asked,
@@ -454,10 +360,8 @@ below-add-seen : (t : ℕ) → below-lts.Need-add-seen (
   wire-row-reads.Learnt,
   previous-beside-reads.Asked,
   previous-beside-reads.Learnt,
-  start-reads.Asked,
-  start-reads.Learnt,
-  put-site-reads.Asked,
-  put-site-reads.Learnt,
+  pin-list-reads.Asked,
+  pin-list-reads.Learnt,
   hang-reads.Asked,
   hang-reads.Learnt,
   seen-below t,
@@ -472,10 +376,8 @@ below-seen-requires : (t : ℕ) → below-lts.Need-seen-requires (
   wire-row-reads.Learnt,
   previous-beside-reads.Asked,
   previous-beside-reads.Learnt,
-  start-reads.Asked,
-  start-reads.Learnt,
-  put-site-reads.Asked,
-  put-site-reads.Learnt,
+  pin-list-reads.Asked,
+  pin-list-reads.Learnt,
   hang-reads.Asked,
   hang-reads.Learnt,
   seen-below t,
@@ -499,10 +401,8 @@ below-hang-requires-2 : (t : ℕ) → below-lts.Need-hang-requires-2 (
   wire-row-reads.Learnt,
   previous-beside-reads.Asked,
   previous-beside-reads.Learnt,
-  start-reads.Asked,
-  start-reads.Learnt,
-  put-site-reads.Asked,
-  put-site-reads.Learnt,
+  pin-list-reads.Asked,
+  pin-list-reads.Learnt,
   hang-reads.Asked,
   hang-reads.Learnt,
   seen-below t,
@@ -517,7 +417,7 @@ below-hang-requires-2 t c κs =
     let w = run (l .loads) (l .times) (l .words) in
     let long = room-run workRoom (l .inv .0) (omega arith) in
     let h = sibling-more (a .rows .now) (a .due .now) (a .types .now) (a .count) (a .n) (a .links .now) (p .0) (a .p) (a .at) (p .1 .0 .0) (p .1 .1 .1 .0) (l .c) _ w (l .m) (l .inv .1 .0) (y .result) (y .ensures) (c .before .before .before .before .before .before .before .before .before .before .before .before .before .before .if1 .left) in
-    let r₂ : Room (o .last .1 .1 .1 .1 .1 .0) (o .last .1 .1 .1 .1 .1 .1 .0) (o .last .1 .1 .1 .1 .1 .1 .1 .0) = room-kept _ _ _ (l .inv .0) (c .before .before .before .before .before .before .before .loads5 .given) (c .before .before .before .before .before .times5 .given) (c .before .before .before .before .words5 .given) in
+    let r₂ : Room (o .last .1 .1 .1 .1 .1 .0) (o .last .1 .1 .1 .1 .1 .1 .0) (o .last .1 .1 .1 .1 .1 .1 .1 .0) = room-kept _ _ _ (l .inv .0) (c .before .before .before .before .before .before .before .loads4 .given) (c .before .before .before .before .before .times4 .given) (c .before .before .before .before .words4 .given) in
     (row-there (a .rows .now) (a .due .now) (a .types .now) (a .count) (a .n) (a .links .now) (p .0) (y .result) h, (r₂, (ohms-in (a .rows .now) (a .due .now) (a .types .now) (a .count) (a .n) (a .links .now) (p .0) (y .result) h, sibling-hang (a .rows .now) (a .due .now) (a .types .now) (a .count) (a .n) (a .links .now) (p .0) (a .p) (a .at) (p .1 .0 .0) (p .1 .1 .1 .0) (l .c) _ w (l .m) (l .inv .1 .0) (y .result) (y .ensures) (c .before .before .before .before .before .before .before .before .before .before .before .before .before .before .if1 .left) long (run (o .last .1 .1 .1 .1 .1 .0) (o .last .1 .1 .1 .1 .1 .1 .0) (o .last .1 .1 .1 .1 .1 .1 .1 .0)) (room-run workRoom r₂ (omega arith)) (o .result) (o .ensures))))
 
 below-loop-less-2 : (t : ℕ) → below-lts.Need-loop-less-2 (
@@ -527,10 +427,8 @@ below-loop-less-2 : (t : ℕ) → below-lts.Need-loop-less-2 (
   wire-row-reads.Learnt,
   previous-beside-reads.Asked,
   previous-beside-reads.Learnt,
-  start-reads.Asked,
-  start-reads.Learnt,
-  put-site-reads.Asked,
-  put-site-reads.Learnt,
+  pin-list-reads.Asked,
+  pin-list-reads.Learnt,
   hang-reads.Asked,
   hang-reads.Learnt,
   seen-below t,
@@ -550,10 +448,8 @@ below-loop-again-2 : (t : ℕ) → below-lts.Need-loop-again-2 (
   wire-row-reads.Learnt,
   previous-beside-reads.Asked,
   previous-beside-reads.Learnt,
-  start-reads.Asked,
-  start-reads.Learnt,
-  put-site-reads.Asked,
-  put-site-reads.Learnt,
+  pin-list-reads.Asked,
+  pin-list-reads.Learnt,
   hang-reads.Asked,
   hang-reads.Learnt,
   seen-below t,
@@ -568,10 +464,10 @@ below-loop-again-2 t c =
     let u = c .before .before .before .before .before .hang2 in
     let w = run (l .loads) (l .times) (l .words) in
     let long = room-run workRoom (l .inv .0) (omega arith) in
-    let r₂ : Room (o .last .1 .1 .1 .1 .1 .0) (o .last .1 .1 .1 .1 .1 .1 .0) (o .last .1 .1 .1 .1 .1 .1 .1 .0) = room-kept _ _ _ (l .inv .0) (c .before .before .before .before .before .before .before .before .before .before .before .before .before .loads5 .given) (c .before .before .before .before .before .before .before .before .before .before .before .times5 .given) (c .before .before .before .before .before .before .before .before .before .before .words5 .given) in
+    let r₂ : Room (o .last .1 .1 .1 .1 .1 .0) (o .last .1 .1 .1 .1 .1 .1 .0) (o .last .1 .1 .1 .1 .1 .1 .1 .0) = room-kept _ _ _ (l .inv .0) (c .before .before .before .before .before .before .before .before .before .before .before .before .before .loads4 .given) (c .before .before .before .before .before .before .before .before .before .before .before .times4 .given) (c .before .before .before .before .before .before .before .before .before .before .words4 .given) in
     let s = sibling-made (a .rows .now) (a .due .now) (a .types .now) (a .count) (a .n) (a .links .now) (p .0) (a .p) (a .at) (p .1 .0 .0) (p .1 .1 .1 .0) (l .c) _ w (l .m) (l .inv .1 .0) (y .result) (y .ensures) (c .before .before .before .before .before .before .before .before .before .before .before .before .before .before .before .before .before .before .before .before .if1 .left) long (run (o .last .1 .1 .1 .1 .1 .0) (o .last .1 .1 .1 .1 .1 .1 .0) (o .last .1 .1 .1 .1 .1 .1 .1 .0)) (room-run workRoom r₂ (omega arith)) (o .result) (o .ensures) (run (u .last .1 .1 .0) (u .last .1 .1 .1 .0) (u .last .1 .1 .1 .1 .0)) (u .result) (u .ensures) in
     let k = l .inv .1 .1 in
-    (room-kept _ _ _ r₂ (c .before .before .before .before .loads6 .given) (c .before .before .times6 .given) (c .before .words6 .given), (s, record { loads = c .before .before .before .before .loads6 .given ∙ c .before .before .before .before .before .before .before .before .before .before .before .before .before .loads5 .given ∙ k .loads; times = c .before .before .times6 .given ∙ c .before .before .before .before .before .before .before .before .before .before .before .times5 .given ∙ k .times; words = c .before .words6 .given ∙ c .before .before .before .before .before .before .before .before .before .before .words5 .given ∙ k .words }))
+    (room-kept _ _ _ r₂ (c .before .before .before .before .loads5 .given) (c .before .before .times5 .given) (c .before .words5 .given), (s, record { loads = c .before .before .before .before .loads5 .given ∙ c .before .before .before .before .before .before .before .before .before .before .before .before .before .loads4 .given ∙ k .loads; times = c .before .before .times5 .given ∙ c .before .before .before .before .before .before .before .before .before .before .before .times4 .given ∙ k .times; words = c .before .words5 .given ∙ c .before .before .before .before .before .before .before .before .before .before .words4 .given ∙ k .words }))
 
 abbrev seen-Inv-loop : seen-lts.InvT-loop
 seen-Inv-loop rows due types count links loads₀ times₀ words₀ n row at r₀ m₀ loads times words r m =
@@ -836,10 +732,8 @@ pub +below+seen-spec : {M : Type 1} → statement M
   wire-row-reads.Learnt,
   previous-beside-reads.Asked,
   previous-beside-reads.Learnt,
-  start-reads.Asked,
-  start-reads.Learnt,
-  put-site-reads.Asked,
-  put-site-reads.Learnt,
+  pin-list-reads.Asked,
+  pin-list-reads.Learnt,
   hang-reads.Asked,
   hang-reads.Learnt,
   seen-below t,
@@ -858,10 +752,8 @@ pub +below+seen-spec : {M : Type 1} → statement M
     (below-same-length-3 t)
     (below-returns t)
     (below-last-below-requires-2 t)
-    (below-add-start t)
-    (below-start-requires t)
-    (below-add-put-site t)
-    (below-put-site-requires t)
+    (below-add-pin-list t)
+    (below-pin-list-requires t)
     (below-hang-requires t)
     (below-loop-less t)
     (below-loop-again t)
