@@ -54,7 +54,7 @@ pub record Chosen (f : ℕ → ℕ) (ls : List ℕ) (ts : List ℤ) (at n b : �
   pub best-is : (ws : List ℕ) → getD (run ls ts ws) b blank ≡ best f (getD (run ls ts ws) at blank) (part (at + 1) (at + n) (run ls ts ws))
   pub value-is : (ws : List ℕ) → v ≡ value f (getD (run ls ts ws) b blank)
 
-pick-by : (f : ℕ → ℕ) (x y : Candidate) (s : (value f y ≤ℤ value f x) ⊎ (value f x <ℤ value f y)) (b : Bool) → ltZ (value f x) (value f y) ≡ b → pick f x y s ≡ cond b y x
+pub pick-by : (f : ℕ → ℕ) (x y : Candidate) (s : (value f y ≤ℤ value f x) ⊎ (value f x <ℤ value f y)) (b : Bool) → ltZ (value f x) (value f y) ≡ b → pick f x y s ≡ cond b y x
 unfolding pick
 pick-by f x y (inl h) true e = absurd (let k = lt-true (value f x) (value f y) e in omega times)
 pick-by f x y (inl h) false e = refl

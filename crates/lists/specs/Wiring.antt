@@ -91,7 +91,7 @@ module _ (f : Candidate → Candidate) where
       same : part (i + 1) (at + n) w′ ≡ part (i + 1) (at + n) w
       same = rw e (part-under (i + 1) (at + n) w (last + 1) (f (getD w i blank)) (omega arith) (omega arith))
 
-      step : (b : Bool) → ltZ (getD w′ last blank .time) (getD w′ (last + 1) blank .time) ≡ b → Wiring w₁ w′ at n (last + cond b 1 0) (i + 1)
+      pub step : (b : Bool) → ltZ (getD w′ last blank .time) (getD w′ (last + 1) blank .time) ≡ b → Wiring w₁ w′ at n (last + cond b 1 0) (i + 1)
       step b q = record {
         from = from b;
         past = past b;

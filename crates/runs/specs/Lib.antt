@@ -1,0 +1,13 @@
+pub mod Records
+pub mod Turns
+pub mod Passes
+pub mod Sweeps
+pub mod Values
+pub mod Cands
+pub mod Beyond
+pub mod Puts
+pub mod Moves
+pub mod Branches
+pub mod Wires
+pub mod Choices
+pub mod Inserts

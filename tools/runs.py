@@ -1,0 +1,32 @@
+#!/usr/bin/env python3
+"""Writes crates/runs/proofs/Calls.antt."""
+import os
+import sys
+
+sys.path.insert(0, os.path.dirname(__file__))
+from calls import Callee, Type, package_file
+
+TYPES = {
+    "Cand": Type("Cand", "Cand", "T"),
+    "Pass": Type("Pass", "Pass", "P"),
+}
+
+HEAD = """-- What a walk knows of the functions of this crate that are lent the run, from their contracts alone. Written by tools/runs.py.
+-- Assumes `Given`.
+"""
+
+MY = "Rattle.runs.proofs."
+USE = """use Rattle.runs.specs.declared.Cand.{Cand}
+use Rattle.runs.specs.declared.turns.Pass.{Pass}
+use Rattle.runs.specs.Passes.{Ready, Took, Safe, Swept}
+use Rattle.runs.proofs.Cand as T
+use Rattle.runs.proofs.Cand.Laws as T′
+use Rattle.runs.proofs.turns.Pass as P
+use Rattle.runs.proofs.turns.Pass.Laws as P′
+use Rattle.runs.proofs.Lending.{at-list, Slice, Sent, Back}
+"""
+CALLEES = [
+    Callee("turn-at", MY + "passes.turn_at", [("run", "mut Cand"), ("p", "Pass")], "Pass", "Took p run r zs", "Ready p run", TYPES),
+    Callee("sweep", MY + "passes.sweep", [("run", "mut Cand"), ("p", "Pass")], "Pass", "Swept p run r zs", "Safe p run", TYPES),
+]
+open(os.path.join(os.path.dirname(__file__), "../crates/runs/proofs/Calls.antt"), "w").write(package_file(HEAD, USE, CALLEES))
