@@ -2,7 +2,8 @@
 use Rattle.plan.specs.Promised.{parts-exact, list-promise, cleared-is}
 use Rattle.plan.specs.Chosen.{lentOf}
 use lib.Seq.{length-take-le}
-use mathlib.Core.Path.{refl, sym}
+use mathlib.Core.Path.{_≡_, refl, sym}
+use Rattle.rules.specs.declared.Listing.the-variants.{Listed}
 use borrow.Author.Needs.{needs}
 use Rattle.plan.proofs.list_accepted.Statement.{statement}
 use Rattle.plan.proofs.list_accepted.Tie as tie
@@ -57,7 +58,8 @@ returns c =
     let a = c .before .before .before .before .before .before .before .before .before .before .before .before .before .before .before .before .before .before .before .before .args in
     let p = c .before .before .before .before .before .before .before .before .before .before .before .before .before .before .before .before .before .before .before .before .pre in
     let t = c .before .before .before .before .before .before .before .before .before .list-in in
-    rw (c .listed .ensures) (list-promise (p .0) (p .1 .1) (a .row) (lentOf (a .list-loads .now) (a .list-times .now)) (lentOf (t .last .1 .1 .1 .1 .1 .1 .0) (t .last .1 .1 .1 .1 .1 .1 .1 .0)) (t .result) _ (p .1 .0 .0) (p .1 .0 .1 .0) (p .1 .0 .1 .1) (t .ensures .0) (cleared-is (a .loads .now) (a .times .now) (a .words .now) (t .ensures .1 .0) refl refl refl))
+    let told : c .listed .result ≡ Listed (t .result) = c .listed .ensures in
+    rw told (list-promise (p .0) (p .1 .1) (a .row) (lentOf (a .list-loads .now) (a .list-times .now)) (lentOf (t .last .1 .1 .1 .1 .1 .1 .0) (t .last .1 .1 .1 .1 .1 .1 .1 .0)) (t .result) _ (p .1 .0 .0) (p .1 .0 .1 .0) (p .1 .0 .1 .1) (t .ensures .0) (cleared-is (a .loads .now) (a .times .now) (a .words .now) (t .ensures .1 .0) refl refl refl))
 
 pub list-accepted-spec : {M : Type 1} → statement M
 list-accepted-spec =

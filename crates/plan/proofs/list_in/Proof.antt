@@ -5,7 +5,9 @@ use Rattle.columns.specs.Made.{room-run}
 use Rattle.columns.specs.Run.{run}
 use Rattle.rules.specs.Quantities.{workRoom}
 use native.Mathlib.Omega.{arith}
-use mathlib.Core.Path.{refl, _∙_}
+use mathlib.Core.Path.{_≡_, refl, _∙_}
+use mathlib.Core.List.{_++_}
+use lib.ListN.{take, drop}
 use Rattle.plan.proofs.list_in.Statement.{statement}
 use Rattle.plan.proofs.list_in.Tie as tie
 
@@ -77,7 +79,8 @@ returns c =
     let l = c .before .before .before .before .before .before .before .before .before .before .before .before .before .before .before .copy-words in
     let t = c .before .before .before .before .before .before .before .before .before .before .copy-times in
     let z = c .before .before .before .before .before .clear in
-    (list-of (p .0) (a .row) (p .1 .0 .0) (run (a .loads .now) (a .times .now) (a .words .now)) (run (m .last .1 .1 .1 .1 .1 .0) (m .last .1 .1 .1 .1 .1 .1 .0) (m .last .1 .1 .1 .1 .1 .1 .1 .0)) long (m .result) (m .ensures) (m .last .1 .1 .1 .1 .1 .0) (m .last .1 .1 .1 .1 .1 .1 .0) (m .last .1 .1 .1 .1 .1 .1 .1 .0) refl r₁ (lentOf (a .list-loads .now) (a .list-times .now)) (lentOf (l .last .1 .0) (t .last .1 .0)) (l .ensures) (t .ensures), (zeroed _ _ _ (z .last .0) (z .last .1 .0) (z .last .1 .1 .0) e₁ (z .ensures .0) (z .ensures .1 .0) (z .ensures .1 .1), made-few (p .0) (a .row) (p .1 .0 .0) (run (a .loads .now) (a .times .now) (a .words .now)) (run (m .last .1 .1 .1 .1 .1 .0) (m .last .1 .1 .1 .1 .1 .1 .0) (m .last .1 .1 .1 .1 .1 .1 .1 .0)) long (m .result) (m .ensures)))
+    let loads : l .last .1 .0 ≡ take (m .result) (m .last .1 .1 .1 .1 .1 .0) ++ drop (m .result) (a .list-loads .now) = l .ensures in
+    (list-of (p .0) (a .row) (p .1 .0 .0) (run (a .loads .now) (a .times .now) (a .words .now)) (run (m .last .1 .1 .1 .1 .1 .0) (m .last .1 .1 .1 .1 .1 .1 .0) (m .last .1 .1 .1 .1 .1 .1 .1 .0)) long (m .result) (m .ensures) (m .last .1 .1 .1 .1 .1 .0) (m .last .1 .1 .1 .1 .1 .1 .0) (m .last .1 .1 .1 .1 .1 .1 .1 .0) refl r₁ (lentOf (a .list-loads .now) (a .list-times .now)) (lentOf (l .last .1 .0) (t .last .1 .0)) loads (t .ensures), (zeroed _ _ _ (z .last .0) (z .last .1 .0) (z .last .1 .1 .0) e₁ (z .ensures .0) (z .ensures .1 .0) (z .ensures .1 .1), made-few (p .0) (a .row) (p .1 .0 .0) (run (a .loads .now) (a .times .now) (a .words .now)) (run (m .last .1 .1 .1 .1 .1 .0) (m .last .1 .1 .1 .1 .1 .1 .0) (m .last .1 .1 .1 .1 .1 .1 .1 .0)) long (m .result) (m .ensures)))
 
 pub list-in-spec : {M : Type 1} → statement M
 list-in-spec =
