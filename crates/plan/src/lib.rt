@@ -16,11 +16,9 @@ ghost use Rattle.laws.specs.Tabled.{rowsFrom, repeatersFrom};
 ghost use Rattle.laws.specs.Checked.{tablesOf, countsOf, Passed};
 ghost use Rattle.columns.specs.Run.{run};
 ghost use Rattle.columns.specs.Made.{Room};
-ghost use Rattle.plan.specs.Made.{Made};
+ghost use Rattle.walk.specs.Made.{Made};
 ghost use Rattle.plan.specs.Promised.{entriesOf, timingOf, Exact, Zeroed};
 ghost use Rattle.plan.specs.Chosen.{columnsOf, lentOf, fourAt, shortBy, shortListBy, Ready, Choice};
-
-pub mod walk;
 
 const PLACEMENT_ROOM: usize = 4;
 

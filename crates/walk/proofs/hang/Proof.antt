@@ -1,14 +1,14 @@
--- `plan::walk::hang` meets its contract. Assumes nothing.
+-- `walk::hang` meets its contract. Assumes nothing.
 use native.Mathlib.Omega.{arith}
 use Rattle.rules.specs.Quantities.{workRoom}
 use Rattle.rules.specs.Net.{wireOf}
 use Rattle.laws.specs.Tabled.{rowAt}
 use Rattle.columns.specs.Made.{room-run}
 use Rattle.columns.specs.Run.{run}
-use Rattle.plan.specs.Steps.{room-kept, hang-pair, hang-gives}
+use Rattle.walk.specs.Steps.{room-kept, hang-pair, hang-gives}
 use borrow.Author.Needs.{needs}
-use Rattle.plan.proofs.walk.hang.Statement.{statement}
-use Rattle.plan.proofs.walk.hang.Tie as tie
+use Rattle.walk.proofs.hang.Statement.{statement}
+use Rattle.walk.proofs.hang.Tie as tie
 
 add-wire-row : tie.Need-add-wire-row
 add-wire-row c = search needs

@@ -1,9 +1,9 @@
--- `plan::walk::wire_row` meets its contract. Assumes nothing.
+-- `walk::wire_row` meets its contract. Assumes nothing.
 use Rattle.rules.specs.Net.{wireOf}
-use Rattle.plan.specs.Steps.{wired-stand}
+use Rattle.walk.specs.Steps.{wired-stand}
 use borrow.Author.Needs.{needs}
-use Rattle.plan.proofs.walk.wire_row.Statement.{statement}
-use Rattle.plan.proofs.walk.wire_row.Tie as tie
+use Rattle.walk.proofs.wire_row.Statement.{statement}
+use Rattle.walk.proofs.wire_row.Tie as tie
 
 row-at-requires : tie.Need-row-at-requires
 row-at-requires c κs = search needs
