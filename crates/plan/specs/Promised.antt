@@ -44,8 +44,8 @@ use Rattle.rows.specs.Given.{neither, held, areas, net-accepted, standing, driv
 use Rattle.columns.specs.Parts.{part, part-cons, part-length}
 use Rattle.columns.specs.Run.{Candidate, blank, run, stack, placeAt}
 use Rattle.columns.specs.Made.{Room, Stand, room-run}
-use Rattle.walk.specs.Shown.{Shows, shows-some, shows-fit}
-use Rattle.walk.specs.Made.{Made}
+use Rattle.walks.specs.Shown.{Shows, shows-some, shows-fit}
+use Rattle.walks.specs.Made.{Made}
 use Rattle.plan.specs.Chosen.{columnsOf, lentOf, shortBy, shortListBy, Ready, Choice}
 
 abbrev pub entriesOf : (types rows : List ℕ) (due : List ℤ) (count n : ℕ) → List Entry

@@ -16,7 +16,7 @@ ghost use Rattle.laws.specs.Tabled.{rowsFrom, repeatersFrom};
 ghost use Rattle.laws.specs.Checked.{tablesOf, countsOf, Passed};
 ghost use Rattle.columns.specs.Run.{run};
 ghost use Rattle.columns.specs.Made.{Room};
-ghost use Rattle.walk.specs.Made.{Made};
+ghost use Rattle.walks.specs.Made.{Made};
 ghost use Rattle.plan.specs.Promised.{entriesOf, timingOf, Exact, Zeroed};
 ghost use Rattle.plan.specs.Chosen.{columnsOf, lentOf, fourAt, shortBy, shortListBy, Ready, Choice};
 
@@ -51,7 +51,7 @@ fn make(
 {
     let mut links = [0u16; 768];
     rows::backward::link_back(rows, due, n, &mut links);
-    walk::seen(
+    walks::seen(
         rows,
         due,
         types,

@@ -1,5 +1,5 @@
 -- `plan::make` meets its contract. Assumes nothing.
-use Rattle.walk.specs.Code.{start-room}
+use Rattle.walks.specs.Code.{start-room}
 use Rattle.rows.specs.Given.{standing, earlier, areas, net-accepted}
 use Prim.Native.Nat.{ℕ}
 use lib.ListN.{length-replicate}

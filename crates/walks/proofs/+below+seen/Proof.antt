@@ -1,4 +1,4 @@
--- `walk::below` and `walk::seen` meet their contracts. What falls is twice the rows left, and one for `seen`; in the loops the row
+-- `walks::below` and `walks::seen` meet their contracts. What falls is twice the rows left, and one for `seen`; in the loops the row
 -- falls. Assumes nothing.
 use mathlib.Core.Path.{_≡_, refl, sym, _∙_}
 use Prim.Native.Nat.{ℕ, _+_, _*_, _-_, _<_}
@@ -10,30 +10,30 @@ use Rattle.laws.specs.Walk.{seenAt}
 use Rattle.laws.specs.Tabled.{rowsFrom, repeatersFrom}
 use Rattle.columns.specs.Made.{Room, room-run}
 use Rattle.columns.specs.Run.{run}
-use Rattle.walk.specs.Made.{Made, Driven, Kept}
-use Rattle.walk.specs.Steps.{room-kept}
-use Rattle.walk.specs.Spine.{Spine, here}
-use Rattle.walk.specs.Upward.{Siblings, made-since, made-here, siblings-here, driven-here}
-use Rattle.walk.specs.Code.{typed, row-there, ohms-in, rising, way-inside, way-after, way-room, start-fits, started, driven-sited, site-made, above, under-made, wire-ready, wire-made, sibling-inside, siblings-made, sibling-more, sibling-earlier, sibling-after, sibling-room, sibling-hang, sibling-made}
+use Rattle.walks.specs.Made.{Made, Driven, Kept}
+use Rattle.walks.specs.Steps.{room-kept}
+use Rattle.walks.specs.Spine.{Spine, here}
+use Rattle.walks.specs.Upward.{Siblings, made-since, made-here, siblings-here, driven-here}
+use Rattle.walks.specs.Code.{typed, row-there, ohms-in, rising, way-inside, way-after, way-room, start-fits, started, driven-sited, site-made, above, under-made, wire-ready, wire-made, sibling-inside, siblings-made, sibling-more, sibling-earlier, sibling-after, sibling-room, sibling-hang, sibling-made}
 use borrow.Fn.Kinds.{In}
 use borrow.Fn.PlainCycle.{Measures, is, falls, and}
-use Rattle.walk.proofs.below.Reads as below
-use Rattle.walk.proofs.below.Kinds as below-kinds
-use Rattle.walk.proofs.+below+seen.Lts-below as below-lts
-use Rattle.walk.proofs.seen.Reads as seen
-use Rattle.walk.proofs.seen.Kinds as seen-kinds
-use Rattle.walk.proofs.+below+seen.Lts-seen as seen-lts
-use Rattle.walk.proofs.deepest.Reads as deepest-reads
-use Rattle.walk.proofs.hang.Reads as hang-reads
-use Rattle.walk.proofs.pin_list.Reads as pin-list-reads
-use Rattle.walk.proofs.put_site.Reads as put-site-reads
-use Rattle.walk.proofs.start.Reads as start-reads
-use Rattle.walk.proofs.wire_row.Reads as wire-row-reads
+use Rattle.walks.proofs.below.Reads as below
+use Rattle.walks.proofs.below.Kinds as below-kinds
+use Rattle.walks.proofs.+below+seen.Lts-below as below-lts
+use Rattle.walks.proofs.seen.Reads as seen
+use Rattle.walks.proofs.seen.Kinds as seen-kinds
+use Rattle.walks.proofs.+below+seen.Lts-seen as seen-lts
+use Rattle.walks.proofs.deepest.Reads as deepest-reads
+use Rattle.walks.proofs.hang.Reads as hang-reads
+use Rattle.walks.proofs.pin_list.Reads as pin-list-reads
+use Rattle.walks.proofs.put_site.Reads as put-site-reads
+use Rattle.walks.proofs.start.Reads as start-reads
+use Rattle.walks.proofs.wire_row.Reads as wire-row-reads
 use Rattle.rows.proofs.backward.last_below.Reads as last-below-reads
 use Rattle.rows.proofs.backward.previous_beside.Reads as previous-beside-reads
 use Rattle.rows.proofs.row_at.Reads as row-at-reads
-use Rattle.walk.proofs.+below+seen.{statement}
-use Rattle.walk.proofs.+below+seen.Tie.{close}
+use Rattle.walks.proofs.+below+seen.{statement}
+use Rattle.walks.proofs.+below+seen.Tie.{close}
 
 abbrev μ-below : Measures 7 below-kinds.ps ℕ
 μ-below κs a = 2 * (a .1 .1 .1 .1 .1 .1 .1 .1 .0 - a .1 .1 .1 .1 .1 .1 .1 .1 .1 .0)

@@ -1,4 +1,4 @@
--- `walk::pin_list` meets its contract. Assumes nothing.
+-- `walks::pin_list` meets its contract. Assumes nothing.
 use mathlib.Core.Path.{_≡_, refl}
 use mathlib.Core.Bool.{true, false}
 use Prim.Native.Nat.{_+_}
@@ -9,12 +9,12 @@ use Rattle.laws.specs.Tabled.{rowAt}
 use Rattle.rows.specs.Links.{sitesAt}
 use Rattle.columns.specs.Made.{Room, room-run}
 use Rattle.columns.specs.Run.{run}
-use Rattle.walk.specs.Spine.{here}
-use Rattle.walk.specs.Steps.{sited-types, sited-stand, site-put, site-none, room-kept}
-use Rattle.walk.specs.Code.{typed, row-there, start-fits, started, driven-sited, site-made}
+use Rattle.walks.specs.Spine.{here}
+use Rattle.walks.specs.Steps.{sited-types, sited-stand, site-put, site-none, room-kept}
+use Rattle.walks.specs.Code.{typed, row-there, start-fits, started, driven-sited, site-made}
 use borrow.Author.Needs.{needs}
-use Rattle.walk.proofs.pin_list.Statement.{statement}
-use Rattle.walk.proofs.pin_list.Tie as tie
+use Rattle.walks.proofs.pin_list.Statement.{statement}
+use Rattle.walks.proofs.pin_list.Tie as tie
 
 start-requires : tie.Need-start-requires
 start-requires c κs =

@@ -25,11 +25,11 @@ use Rattle.rows.specs.Backward.{Backward, previousAt}
 use Rattle.columns.specs.Parts.{part, part-over}
 use Rattle.columns.specs.Run.{Candidate, candidate}
 use Rattle.columns.specs.Made.{Gives}
-use Rattle.walk.specs.Shown.{startList, siteList}
-use Rattle.walk.specs.Made.{Made, Driven, Wired, Hang}
-use Rattle.walk.specs.Links.{from, from-child}
-use Rattle.walk.specs.Spine.{Below, last-below, previous-below, first-below, room-child}
-use Rattle.walk.specs.Recursion.{seen-made, alone, pin-sited, nothing-under, under-sited, alone-wired, alone-made, own-room, beside-hang, beside-made}
+use Rattle.walks.specs.Shown.{startList, siteList}
+use Rattle.walks.specs.Made.{Made, Driven, Wired, Hang}
+use Rattle.walks.specs.Links.{from, from-child}
+use Rattle.walks.specs.Spine.{Below, last-below, previous-below, first-below, room-child}
+use Rattle.walks.specs.Recursion.{seen-made, alone, pin-sited, nothing-under, under-sited, alone-wired, alone-made, own-room, beside-hang, beside-made}
 
 -- a row that is no sink starts with what hangs under it
 starts : (kind : Kind) → T (not (isSink kind)) → (l : List Candidate) → startList kind l ≡ l

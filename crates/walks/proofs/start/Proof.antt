@@ -1,8 +1,8 @@
--- `walk::start` meets its contract. Assumes nothing.
+-- `walks::start` meets its contract. Assumes nothing.
 use mathlib.Core.Path.{refl}
 use borrow.Author.Needs.{needs}
-use Rattle.walk.proofs.start.Statement.{statement}
-use Rattle.walk.proofs.start.Tie as tie
+use Rattle.walks.proofs.start.Statement.{statement}
+use Rattle.walks.proofs.start.Tie as tie
 
 row-at-requires : tie.Need-row-at-requires
 row-at-requires c κs = search needs

@@ -27,7 +27,7 @@ use Rattle.rows.specs.Backward.{Backward}
 use Rattle.columns.specs.Parts.{part}
 use Rattle.columns.specs.Run.{Candidate, candidate}
 use Rattle.columns.specs.Made.{Fit}
-use Rattle.walk.specs.Shown.{Shows, startList}
+use Rattle.walks.specs.Shown.{Shows, startList}
 
 -- an accepted net in its tables, with its links
 pub record Given (rows : List ℕ) (due : List ℤ) (types : List ℕ) (count n : ℕ) (links : List ℕ) : Type 0 where

@@ -21,7 +21,7 @@ use Rattle.laws.specs.Sums.{over}
 use Rattle.laws.specs.Room.{HasRoom, room-under}
 use Rattle.laws.specs.Walk.{noRow, sitesBefore, under, seenAt, child, child-end, child-taken, under-passed}
 use Rattle.rows.specs.Backward.{Backward, Last, nothing, there, previousAt}
-use Rattle.walk.specs.Links.{from, sites-step, room-alone, first-inside}
+use Rattle.walks.specs.Links.{from, sites-step, room-alone, first-inside}
 
 -- the last row below a row comes after it, or is the number past the last row
 abbrev pub Rising : List ℕ → (n : ℕ) → Type 0

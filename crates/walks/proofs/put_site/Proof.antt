@@ -1,4 +1,4 @@
--- `walk::put_site` meets its contract. Assumes nothing.
+-- `walks::put_site` meets its contract. Assumes nothing.
 use mathlib.Core.Path.{_≡_}
 use mathlib.Core.Bool.{true, false}
 use Prim.Native.Nat.{_+_}
@@ -9,10 +9,10 @@ use Rattle.laws.specs.Tabled.{rowAt}
 use Rattle.rows.specs.Links.{sitesAt}
 use Rattle.columns.specs.Made.{room-run}
 use Rattle.columns.specs.Run.{run}
-use Rattle.walk.specs.Steps.{sited-types, sited-stand, site-put, site-none}
+use Rattle.walks.specs.Steps.{sited-types, sited-stand, site-put, site-none}
 use borrow.Author.Needs.{needs}
-use Rattle.walk.proofs.put_site.Statement.{statement}
-use Rattle.walk.proofs.put_site.Tie as tie
+use Rattle.walks.proofs.put_site.Statement.{statement}
+use Rattle.walks.proofs.put_site.Tie as tie
 
 row-at-requires : tie.Need-row-at-requires
 row-at-requires c κs = search needs

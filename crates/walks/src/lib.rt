@@ -16,9 +16,9 @@ ghost use Rattle.rows.specs.Links.{linksRoom, sitesAt};
 ghost use Rattle.columns.specs.Parts.{part};
 ghost use Rattle.columns.specs.Run.{run};
 ghost use Rattle.columns.specs.Made.{Room, Gives};
-ghost use Rattle.walk.specs.Shown.{siteList};
-ghost use Rattle.walk.specs.Made.{Given, RowThere, Made, Wired, Hang, Sited, Started, Typed};
-ghost use Rattle.walk.specs.Spine.{Rising, Spine};
+ghost use Rattle.walks.specs.Shown.{siteList};
+ghost use Rattle.walks.specs.Made.{Given, RowThere, Made, Wired, Hang, Sited, Started, Typed};
+ghost use Rattle.walks.specs.Spine.{Rising, Spine};
 
 // A row's list, put behind the row's wire.
 pub fn wire_row(

@@ -23,10 +23,10 @@ use Rattle.rows.specs.Backward.{previousAt}
 use Rattle.columns.specs.Parts.{part}
 use Rattle.columns.specs.Run.{Candidate}
 use Rattle.columns.specs.Made.{Gives}
-use Rattle.walk.specs.Shown.{siteList}
-use Rattle.walk.specs.Made.{Given, RowThere, Made, Driven, Wired, Hang, Sited, Started, Typed}
-use Rattle.walk.specs.Spine.{Rising, Spine, Above, spine-above, spine-after, spine-room, last-after, last-below, previous-earlier, previous-upto, end-sink, above-plain}
-use Rattle.walk.specs.Upward.{Siblings, pin-driven, under-driven, driven-made, last-wired, last-made, all-made, previous-after, previous-room, previous-hang, previous-made, made-since}
+use Rattle.walks.specs.Shown.{siteList}
+use Rattle.walks.specs.Made.{Given, RowThere, Made, Driven, Wired, Hang, Sited, Started, Typed}
+use Rattle.walks.specs.Spine.{Rising, Spine, Above, spine-above, spine-after, spine-room, last-after, last-below, previous-earlier, previous-upto, end-sink, above-plain}
+use Rattle.walks.specs.Upward.{Siblings, pin-driven, under-driven, driven-made, last-wired, last-made, all-made, previous-after, previous-room, previous-hang, previous-made, made-since}
 
 module _ (ws : List ℕ) (ds : List ℤ) (ts : List ℕ) (count n : ℕ) (ls : List ℕ) (G : Given ws ds ts count n ls) where
   abbrev R : List Row

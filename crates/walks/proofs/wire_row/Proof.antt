@@ -1,9 +1,9 @@
--- `walk::wire_row` meets its contract. Assumes nothing.
+-- `walks::wire_row` meets its contract. Assumes nothing.
 use Rattle.rules.specs.Net.{wireOf}
-use Rattle.walk.specs.Steps.{wired-stand}
+use Rattle.walks.specs.Steps.{wired-stand}
 use borrow.Author.Needs.{needs}
-use Rattle.walk.proofs.wire_row.Statement.{statement}
-use Rattle.walk.proofs.wire_row.Tie as tie
+use Rattle.walks.proofs.wire_row.Statement.{statement}
+use Rattle.walks.proofs.wire_row.Tie as tie
 
 row-at-requires : tie.Need-row-at-requires
 row-at-requires c κs = search needs

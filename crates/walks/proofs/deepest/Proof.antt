@@ -1,12 +1,12 @@
--- `walk::deepest` meets its contract. The loop's invariant: the row is on the way down, and c is the last below it. The measure is the
+-- `walks::deepest` meets its contract. The loop's invariant: the row is on the way down, and c is the last below it. The measure is the
 -- rows after it. Assumes nothing.
 use mathlib.Core.Path.{_≡_, refl, sym, _∙_}
 use Prim.Native.Nat.{_-_, _<_}
 use native.Mathlib.Omega.{arith}
 use lib.ListN.{getD}
-use Rattle.walk.specs.Spine.{Spine, here, down}
-use Rattle.walk.proofs.deepest.Statement.{statement}
-use Rattle.walk.proofs.deepest.Tie as tie
+use Rattle.walks.specs.Spine.{Spine, here, down}
+use Rattle.walks.proofs.deepest.Statement.{statement}
+use Rattle.walks.proofs.deepest.Tie as tie
 
 abbrev Inv-loop : tie.InvT-loop
 Inv-loop links n row r₀ c₀ r c = (r < n) × (Spine links n row r × (c ≡ getD links r 0))

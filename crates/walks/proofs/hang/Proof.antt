@@ -1,14 +1,14 @@
--- `walk::hang` meets its contract. Assumes nothing.
+-- `walks::hang` meets its contract. Assumes nothing.
 use native.Mathlib.Omega.{arith}
 use Rattle.rules.specs.Quantities.{workRoom}
 use Rattle.rules.specs.Net.{wireOf}
 use Rattle.laws.specs.Tabled.{rowAt}
 use Rattle.columns.specs.Made.{room-run}
 use Rattle.columns.specs.Run.{run}
-use Rattle.walk.specs.Steps.{room-kept, hang-pair, hang-gives}
+use Rattle.walks.specs.Steps.{room-kept, hang-pair, hang-gives}
 use borrow.Author.Needs.{needs}
-use Rattle.walk.proofs.hang.Statement.{statement}
-use Rattle.walk.proofs.hang.Tie as tie
+use Rattle.walks.proofs.hang.Statement.{statement}
+use Rattle.walks.proofs.hang.Tie as tie
 
 add-wire-row : tie.Need-add-wire-row
 add-wire-row c = search needs

@@ -43,9 +43,9 @@ use Rattle.rows.specs.Links.{Links, row-is}
 use Rattle.columns.specs.Parts.{part, part-nil, part-cons, part-over, part-length, part-less, part-part}
 use Rattle.columns.specs.Run.{Candidate, candidate, blank}
 use Rattle.columns.specs.Made.{Fit, Gives}
-use Rattle.walk.specs.Shown.{Shows, startList, siteList, shows-any, shows-length, shows-fit, shows-seen, shows-alone, shows-beside, shows-wired}
-use Rattle.walk.specs.Made.{Made, Wired, Hang, Sited}
-use Rattle.walk.specs.Links.{from, from-child, from-step, sites-step, room-next, room-seen, room-alone, room-first, seen-some, from-some, seen-proper, seen-within, from-proper, from-within, seen-apart, first-inside}
+use Rattle.walks.specs.Shown.{Shows, startList, siteList, shows-any, shows-length, shows-fit, shows-seen, shows-alone, shows-beside, shows-wired}
+use Rattle.walks.specs.Made.{Made, Wired, Hang, Sited}
+use Rattle.walks.specs.Links.{from, from-child, from-step, sites-step, room-next, room-seen, room-alone, room-first, seen-some, from-some, seen-proper, seen-within, from-proper, from-within, seen-apart, first-inside}
 
 -- ---- a list that shows something, as it stands in the run
 module _ {types : List Repeater} {rows : List Row} (ok : Accepted types rows) where

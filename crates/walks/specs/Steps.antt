@@ -18,8 +18,8 @@ use Rattle.columns.specs.Run.{Candidate}
 use Rattle.columns.specs.Made.{Room, Stand, Gives}
 use Rattle.lists.specs.Branching.{Pair}
 use Rattle.lists.specs.Types.{repeatersOf, TypesIn}
-use Rattle.walk.specs.Shown.{siteList}
-use Rattle.walk.specs.Made.{Wired, Hang, Sited, Typed}
+use Rattle.walks.specs.Shown.{siteList}
+use Rattle.walks.specs.Made.{Wired, Hang, Sited, Typed}
 
 -- columns that are as long as they were have their room
 pub room-kept : {ls : List ℕ} {ts : List ℤ} {ws : List ℕ} (ls′ : List ℕ) (ts′ : List ℤ) (ws′ : List ℕ) → Room ls ts ws → length ls′ ≡ length ls → length ts′ ≡ length ts → length ws′ ≡ length ws → Room ls′ ts′ ws′
