@@ -76,7 +76,8 @@ class Type:
         return f"{self.law}.tells {self.m}.the-type {self.m}′.the-laws {y} _ {g}"
 
     def typed(self, y, g):
-        return f"({self.law}.lawful {self.m}.the-type {self.m}′.the-laws 𝓤 H A W .typed {y} _ {g} .0)"
+        few = " tt" if self.law == "EL" else ""
+        return f"({self.law}.lawful {self.m}.the-type {self.m}′.the-laws 𝓤 H A W{few} .typed {y} _ {g} .0)"
 
     def mir(self):
         return f"{self.m}′.mir"
@@ -106,11 +107,15 @@ class Callee:
         return self.kind[p].split(" ", 1)[1]
 
     def rowOf(self, k):
+        if k.startswith("array "):
+            return f"(Array {k[6:]})"
         return self.types[k].row() if k in self.types else {"bool": "Boolean"}.get(k, k)
 
     def denot(self, k):
         if k in self.types:
             return self.types[k].denot
+        if k.startswith("array "):
+            return "List ℕ"
         return {"i64": "ℤ", "bool": "Bool", "unit": "Unit {0}"}.get(k, "ℕ")
 
     def args(self):
@@ -208,7 +213,7 @@ class Callee:
         """beside the machine value: what a landing of it needs"""
         if self.result in NUM:
             return f"({r} < 2 ^ {NUM[self.result][1][1:]})"
-        if self.result in ("unit", "bool"):
+        if self.result in ("unit", "bool") or self.result.startswith("array "):
             return "Unit {0}"
         return f"Is {self.rowOf(self.result)} {r} ({self.types[self.result].vals(r)})"
 
@@ -238,6 +243,8 @@ class Callee:
         w(f"    {n}-vals = " + "".join(f"{self.value(p)} ∷ " for p, k in self.params) + "[]")
         w("")
         says = f"(w ≡ {self.resVal('r')}) × ({self.resFact('r')} × ({self.clause(self.ens, 'zs')}))"
+        if self.result.startswith("array "):
+            says = f"Is {self.resRow()} r (w ∷ []) × (Unit {{0}} × ({self.clause(self.ens, 'zs')}))"
         w(f"    abbrev pub {n}-says : {res} → {'List ' + D + ' → ' if self.mut else ''}Val → Type 0")
         w(f"    {n}-says r {'zs ' if self.mut else ''}w = {says}")
         w("")
@@ -282,8 +289,11 @@ class Callee:
             c.move(t, "acc")
             c.join("acc", "join")
         c.move("acc")
-        c.items.pop(0)
-        c.say("frame ! $")
+        if self.req:
+            c.items.pop(0)
+            c.say("frame ! $")
+        else:
+            c.items[0] = "tokens"
         c.put("acc", "nothing ! $")
         for p, k in reversed(self.params):
             if k.startswith("mut "):
@@ -298,6 +308,10 @@ class Callee:
             else:
                 c.put("own", f"owned ! {self.rowOf(k)} (Is {self.rowOf(k)}) {self.types[k].makes()} {p} _ {p}-is $")
             c.join("acc")
+        if not self.req:
+            c.move("tokens", "acc")
+            c.join("all", "join")
+            c.say("frame ! $")
         c.say("done !")
         w(lead.rstrip() + " =")
         w("        qed W (" + " ∷ ".join(itm[s] for s in start) + " ∷ []) ∵ " + c.out())
@@ -357,7 +371,9 @@ class Callee:
         else:
             row = self.resRow()
             c.say(f"facts ! {row} (Is {row}) (shows 𝓤 H A {row}) r (w ∷ []) (λ g.")
-            if self.result in NUM:
+            if self.result.startswith("array "):
+                known = "(g, (tt, is))"
+            elif self.result in NUM:
                 known = "(ap only (g .0), (g .1, is))"
             else:
                 T = self.types[self.result]
@@ -416,6 +432,8 @@ use ghost.Atoms.{Atoms, sem}
 use contract.Monad.{Fun, fact}
 use types.Kit.{Given, ‵, drop, raw, _⊛_, some, later, _$_, _∵_, !, qed, move, keep, use1, split, join, pick, fsplit, fjoin, feqL, feqI, frame, await, updating, now as at-once, show, check, done}
 use denote.RattleType.{RattleType}
+use denote.Array.{Array}
+use denote.Enum.Laws as EL
 use denote.Laws.{Is, shows}
 use denote.Plain.{Nothing, Boolean, uint-makes}
 use denote.Builtin.{u16, u32, u64, usize, i64}

@@ -16,11 +16,11 @@ HEAD = """-- What a walk knows of the functions of this crate that are lent the 
 """
 
 MY = "Rattle.runs.proofs."
-USE = """use Rattle.runs.specs.declared.Cand.{Cand}
+USE = """use Rattle.rules.specs.declared.Cand.{Cand}
 use Rattle.runs.specs.declared.turns.Pass.{Pass}
 use Rattle.runs.specs.Passes.{Ready, Took, Safe, Swept}
-use Rattle.runs.proofs.Cand as T
-use Rattle.runs.proofs.Cand.Laws as T′
+use Rattle.rules.proofs.Cand as T
+use Rattle.rules.proofs.Cand.Laws as T′
 use Rattle.runs.proofs.turns.Pass as P
 use Rattle.runs.proofs.turns.Pass.Laws as P′
 use Rattle.runs.proofs.Lending.{at-list, Slice, Sent, Back}

@@ -8,6 +8,7 @@ use Prim.Native.Nat.{ℕ, _+_, _*_, _≤_}
 use lib.Dec.{leb, ltb}
 use lib.IntN.{ℤ, pos}
 use lib.ListN.{length, replicate}
+use Rattle.rules.specs.declared.Cand.{Cand}
 use Rattle.rules.specs.declared.Kind.{Kind}
 use Rattle.rules.specs.declared.Kind.the-variants.{Driver, Point, Sink}
 use Rattle.rules.specs.declared.Refusal.{Refusal}
@@ -123,6 +124,13 @@ columns = record {
   short = λ w. ltb (length (w .loads)) workRoom || (ltb (length (w .times)) workRoom || ltb (length (w .words)) (placementRoom * workRoom));
   cleared = λ w. record { loads = written (replicate workRoom 0) (w .loads); times = written (replicate workRoom (pos 0)) (w .times); words = written (replicate (placementRoom * workRoom) 0) (w .words) };
 }
+
+-- a run of records, each a load, a time and the four words of a placement
+abbrev pub zeros : Cand
+zeros = record { load = record { 0 = 0 }; time = record { 0 = pos 0 }; words = 0 ∷ 0 ∷ 0 ∷ 0 ∷ [] }
+
+unfoldable pub records : Storage (List Cand)
+records = record { short = λ w. ltb (length w) workRoom; cleared = λ w. written (replicate workRoom zeros) w }
 
 -- ---- plan_net
 -- the placement returned is planned, with the slack and load given, and all four of its words are written

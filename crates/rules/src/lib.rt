@@ -15,6 +15,13 @@ pub struct Pin {
     pub due: Femtosecond,
 }
 
+// A candidate as it stands in a lent run of records: its load, its time, and the words of its placement.
+pub struct Cand {
+    pub load: Femtofarad,
+    pub time: Femtosecond,
+    pub words: [u64; 4],
+}
+
 // A row is a driver, a plain point or a sink.
 pub enum Kind {
     Driver,

@@ -4,7 +4,7 @@ use mathlib.Core.List.{List}
 use lib.ListN.{length, drop, set, length-set}
 use lib.Seq.{drop-set-lt}
 use Rattle.rules.specs.Quantities.{workRoom}
-use Rattle.runs.specs.declared.Cand.{Cand}
+use Rattle.rules.specs.declared.Cand.{Cand}
 use Rattle.runs.specs.declared.turns.Pass.{Pass}
 use Rattle.runs.specs.Passes.{Safe, Swept, none, turn}
 use Rattle.runs.specs.Sweeps.{safe-ready, safe-next}

@@ -14,7 +14,7 @@ use Rattle.laws.specs.Joining.{join}
 use Rattle.laws.specs.Steps.{joined}
 use Rattle.columns.specs.Run.{blank}
 use Rattle.lists.specs.Branching.{Pair, Joining, Merged, joining-start, joining-fit, joining-step, joining-end, not-both}
-use Rattle.runs.specs.declared.Cand.{Cand}
+use Rattle.rules.specs.declared.Cand.{Cand}
 use Rattle.runs.specs.declared.turns.Step.the-variants.{Branch}
 use Rattle.runs.specs.declared.turns.Pass.{Pass}
 use Rattle.runs.specs.declared.turns.Turn.{Turn}

@@ -5,8 +5,9 @@ use Prim.Native.Nat.{ℕ, zero, suc, _<_}
 use native.Mathlib.Omega.{arith}
 use lib.ListN.{length, getD, set, length-map}
 use Rattle.columns.specs.Run.{Candidate, blank}
-use Rattle.runs.specs.declared.Cand.{Cand}
-use Rattle.runs.specs.Records.{candOf, zeros, cands}
+use Rattle.rules.specs.declared.Cand.{Cand}
+use Rattle.rules.specs.Promises.{zeros}
+use Rattle.runs.specs.Records.{candOf, cands}
 
 pub cands-length : (w : List Cand) → length (cands w) ≡ length w
 cands-length w = length-map w candOf

@@ -15,11 +15,12 @@ use Rattle.columns.specs.Parts.{part, part-nil, part-cons, all-part}
 use Rattle.columns.specs.Run.{Candidate, blank}
 use Rattle.columns.specs.Made.{Fit, Stand}
 use Rattle.columns.specs.Choosing.{delayOf, pick-by}
-use Rattle.runs.specs.declared.Cand.{Cand}
+use Rattle.rules.specs.declared.Cand.{Cand}
 use Rattle.runs.specs.declared.turns.Step.the-variants.{FirstChoice, Choose}
 use Rattle.runs.specs.declared.turns.Pass.{Pass}
 use Rattle.runs.specs.declared.turns.Turn.{Turn}
-use Rattle.runs.specs.Records.{candOf, zeros, cands}
+use Rattle.rules.specs.Promises.{zeros}
+use Rattle.runs.specs.Records.{candOf, cands}
 use Rattle.runs.specs.Cands.{cands-length, cands-at}
 use Rattle.runs.specs.Turns.{passOf, worthOf, Turned}
 use Rattle.runs.specs.Passes.{first, second, Ready, Safe, Swept}

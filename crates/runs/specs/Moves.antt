@@ -8,7 +8,7 @@ use Rattle.rules.specs.declared.Femtosecond.{Femtosecond}
 use Rattle.rules.specs.Quantities.{workRoom}
 use Rattle.columns.specs.Run.{blank}
 use Rattle.columns.specs.Moving.{Moved, Lowering, lowering-start, lowering-step, lowering-end}
-use Rattle.runs.specs.declared.Cand.{Cand}
+use Rattle.rules.specs.declared.Cand.{Cand}
 use Rattle.runs.specs.declared.turns.Step.the-variants.{Move}
 use Rattle.runs.specs.declared.turns.Pass.{Pass}
 use Rattle.runs.specs.declared.turns.Turn.{Turn}

@@ -4,10 +4,11 @@ use mathlib.Core.List.{List}
 use Prim.Native.Nat.{ℕ, _≤_, _<_}
 use lib.ListN.{length, getD, set}
 use Rattle.rules.specs.Quantities.{workRoom}
-use Rattle.runs.specs.declared.Cand.{Cand}
+use Rattle.rules.specs.declared.Cand.{Cand}
 use Rattle.runs.specs.declared.turns.Pass.{Pass}
 use Rattle.runs.specs.declared.turns.Turn.{Turn}
-use Rattle.runs.specs.Records.{candOf, zeros}
+use Rattle.rules.specs.Promises.{zeros}
+use Rattle.runs.specs.Records.{candOf}
 use Rattle.runs.specs.Turns.{Here, Can, Turned}
 
 -- what the pass reads

@@ -7,7 +7,7 @@ use lib.ListN.{length, drop, set, replicate, length-set}
 use Rattle.rules.specs.declared.Femtosecond.{Femtosecond}
 use Rattle.rules.specs.Quantities.{workRoom}
 use Rattle.columns.specs.Clearing.{Clearing, clearing-start, clearing-step, clearing-end}
-use Rattle.runs.specs.declared.Cand.{Cand}
+use Rattle.rules.specs.declared.Cand.{Cand}
 use Rattle.runs.specs.declared.turns.Step.the-variants.{Put}
 use Rattle.runs.specs.declared.turns.Pass.{Pass}
 use Rattle.runs.specs.declared.turns.Turn.{Turn}

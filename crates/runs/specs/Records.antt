@@ -8,7 +8,7 @@ use Rattle.rules.specs.declared.Femtofarad.{Femtofarad}
 use Rattle.rules.specs.declared.Femtosecond.{Femtosecond}
 use Rattle.rules.specs.Placements.{marks}
 use Rattle.columns.specs.Run.{Candidate, candidate}
-use Rattle.runs.specs.declared.Cand.{Cand}
+use Rattle.rules.specs.declared.Cand.{Cand}
 
 abbrev pub candOf : Cand → Candidate
 candOf c = candidate (c .load .0) (c .time .0) (marks (c .words))
@@ -16,10 +16,6 @@ candOf c = candidate (c .load .0) (c .time .0) (marks (c .words))
 -- a record with no marks
 abbrev pub plainOf : Femtofarad → Femtosecond → Cand
 plainOf load time = record { load = load; time = time; words = 0 ∷ 0 ∷ 0 ∷ 0 ∷ [] }
-
--- a record of zeros
-abbrev pub zeros : Cand
-zeros = plainOf (record { 0 = 0 }) (record { 0 = pos 0 })
 
 abbrev pub cands : List Cand → List Candidate
 cands w = map candOf w

@@ -8,7 +8,7 @@ use lib.Dec.{ltb}
 use lib.Signed.{ltZ}
 use lib.ListN.{length, getD, set}
 use Rattle.pairs.specs.Stands.{isBelow, isCovering}
-use Rattle.runs.specs.declared.Cand.{Cand}
+use Rattle.rules.specs.declared.Cand.{Cand}
 use Rattle.runs.specs.declared.turns.Step.{Step}
 use Rattle.runs.specs.declared.turns.Step.the-variants.{Put, Move, FirstWire, Wire, FirstChoice, Choose, Insert, Shift, Branch}
 use Rattle.runs.specs.declared.turns.Pass.{Pass}

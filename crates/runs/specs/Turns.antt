@@ -15,7 +15,7 @@ use Rattle.laws.specs.Moves.{behind}
 use Rattle.columns.specs.Run.{Candidate}
 use Rattle.columns.specs.Made.{Fit, wireOf}
 use Rattle.pairs.specs.Stands.{isBelow, isCovering}
-use Rattle.runs.specs.declared.Cand.{Cand}
+use Rattle.rules.specs.declared.Cand.{Cand}
 use Rattle.runs.specs.declared.turns.Step.{Step}
 use Rattle.runs.specs.declared.turns.Step.the-variants.{Put, Move, FirstWire, Wire, FirstChoice, Choose, Insert, Shift, Branch}
 use Rattle.runs.specs.declared.turns.Pass.{Pass}

@@ -14,7 +14,7 @@ use Rattle.laws.specs.Joining.{join}
 use Rattle.laws.specs.Steps.{joined}
 use Rattle.laws.specs.Moves.{behind}
 use Rattle.columns.specs.Made.{Fit, wireOf}
-use Rattle.runs.specs.declared.Cand.{Cand}
+use Rattle.rules.specs.declared.Cand.{Cand}
 use Rattle.runs.specs.Records.{candOf}
 use Rattle.runs.specs.Turns.{Wires}
 

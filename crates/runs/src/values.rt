@@ -1,5 +1,5 @@
 // What is worked out from one or two candidates by value.
-use crate::Cand;
+use rules::Cand;
 use rules::Femtofarad;
 use rules::Femtosecond;
 use rules::Ohm;

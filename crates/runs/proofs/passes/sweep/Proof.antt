@@ -42,11 +42,11 @@ use denote.Triple.Spec.{Meets, tripleOf}
 use denote.Triple.Statement.{Triple}
 use denote.Triple.Table.{entered, cited}
 use denote.Triple.Walked.{says, needs, Stays, stay-slice, stay-none, walkOf, Walks, ends-at, walked, goes-slice, goes-none, walk-meets}
-use Rattle.runs.specs.declared.Cand.{Cand}
+use Rattle.rules.specs.declared.Cand.{Cand}
 use Rattle.runs.specs.declared.turns.Pass.{Pass}
 use Rattle.runs.specs.Passes.{Ready, Took, Safe, Swept, none}
 use Rattle.runs.specs.Sweeps.{took-less, safe-ready, safe-took, swept-took}
-use Rattle.runs.proofs.Cand as T
+use Rattle.rules.proofs.Cand as T
 use Rattle.runs.proofs.turns.Pass as P
 use Rattle.runs.proofs.turns.Pass.Laws as P′
 use Rattle.runs.proofs.Lending.{Slice, calls-out-last}

@@ -41,14 +41,15 @@ use denote.Triple.Table.{entered, cited}
 use denote.Triple.Call.{calls-at}
 use denote.Triple.Walked.{says, needs, Stays, stay-slice, stay-none, walkOf, Walks, ends-at, walked, goes-slice, goes-none, walk-meets}
 use Rattle.rules.specs.Quantities.{workRoom}
-use Rattle.runs.specs.declared.Cand.{Cand}
+use Rattle.rules.specs.declared.Cand.{Cand}
 use Rattle.runs.specs.declared.turns.Pass.{Pass}
 use Rattle.runs.specs.declared.turns.Turn.{Turn}
-use Rattle.runs.specs.Records.{candOf, zeros}
+use Rattle.rules.specs.Promises.{zeros}
+use Rattle.runs.specs.Records.{candOf}
 use Rattle.runs.specs.Turns.{Here, Can, Turned}
 use Rattle.runs.specs.Passes.{Ready, Took, first, second}
-use Rattle.runs.proofs.Cand as T
-use Rattle.runs.proofs.Cand.Laws as T′
+use Rattle.rules.proofs.Cand as T
+use Rattle.rules.proofs.Cand.Laws as T′
 use Rattle.runs.proofs.turns.Pass as P
 use Rattle.runs.proofs.turns.Pass.Laws as P′
 use Rattle.runs.proofs.turns.Turn as U

@@ -1,0 +1,5 @@
+pub mod JobCalls
+pub mod WalkCalls
+pub mod Local
+pub mod EntryCalls
+pub mod PlanCalls

@@ -1,0 +1,19 @@
+-- `records::jobs::wire_pass` meets its contract. Assumes nothing.
+use borrow.Author.Needs.{needs}
+use Rattle.records.proofs.jobs.wire_pass.Statement.{statement}
+use Rattle.records.proofs.jobs.wire_pass.Tie as tie
+
+add-at : tie.Need-add-at
+add-at c = search needs
+
+blank-requires : tie.Need-blank-requires
+blank-requires c κs = search needs
+
+pass-at-requires : tie.Need-pass-at-requires
+pass-at-requires c κs = search needs
+
+returns : tie.Need-returns
+returns c = rw (← (c .before .blank .ensures)) (c .pass-at .ensures)
+
+pub wire-pass-spec : {M : Type 1} → statement M
+wire-pass-spec = tie.close (tie.spec add-at blank-requires pass-at-requires returns)

@@ -1,0 +1,70 @@
+-- The promise of the entries over a run of records: the storage, and what the functions below the entries give. Assumes nothing.
+use mathlib.Core.Path.{_≡_, refl, sym, ap, _∙_}
+use mathlib.Core.Bool.{Bool, true, false, cond}
+use mathlib.Core.List.{List, [], _∷_, _++_}
+use Prim.Native.Nat.{ℕ, zero, suc, _+_, _-_, _*_, _≤_, _<_}
+use lib.Dec.{ltb}
+use lib.IntN.{ℤ, pos}
+use lib.ListN.{length, getD, drop, replicate}
+use Rattle.rules.specs.declared.Checking.{Checking}
+use Rattle.rules.specs.declared.Checking.the-variants.{Accepted, Refused}
+use Rattle.rules.specs.declared.Planning.{Planning}
+use Rattle.rules.specs.declared.Planning.the-variants.{Planned}
+use Rattle.rules.specs.declared.Planning.the-variants.{Refused as NotPlanned}
+use Rattle.rules.specs.declared.Refusal.{Refusal}
+use Rattle.rules.specs.declared.Refusal.the-variants.{Short}
+use Rattle.rules.specs.Lists.{written}
+use Rattle.rules.specs.Quantities.{placementRoom, workRoom}
+use Rattle.rules.specs.Promises.{Storage, CheckPromise, zeros}
+use Rattle.laws.specs.Steps.{best, value}
+use Rattle.laws.specs.Tabled.{rowAt}
+use Rattle.laws.specs.Checked.{tablesOf, countsOf, Passed}
+use Rattle.columns.specs.Parts.{part}
+use Rattle.columns.specs.Run.{blank}
+use Rattle.rules.specs.declared.Cand.{Cand}
+use Rattle.runs.specs.declared.turns.Step.the-variants.{Put, FirstChoice}
+use Rattle.runs.specs.declared.turns.Pass.{Pass}
+use Rattle.runs.specs.Records.{candOf, cands}
+use Rattle.runs.specs.Turns.{passOf}
+use Rattle.records.specs.Hanging.{Seen}
+
+-- ---- the passes of the entry
+abbrev pub driverPass : (rows : List ℕ) (due : List ℤ) (len : ℕ) → Pass
+driverPass rows due len = passOf (FirstChoice 0 (rowAt rows due 0 .resistance)) len 0 0 0 zeros (record { 0 = pos 0 })
+
+abbrev pub clearPass : Pass
+clearPass = passOf Put workRoom 0 0 0 zeros (record { 0 = pos 0 })
+
+pub record Plans (rows : List ℕ) (due : List ℤ) (types : List ℕ) (count n : ℕ) (w : List Cand) : Type 0 where
+  pub passed : Passed (tablesOf types rows due) (countsOf count n)
+  pub long : workRoom ≤ length w
+
+-- the first greatest of the list at the driver is held, and the room is all zero
+pub record Chose (rows : List ℕ) (due : List ℤ) (types : List ℕ) (count n : ℕ) (w w′ : List Cand) (e : Pass) : Type 0 where
+  pub run : List Cand
+  pub len : ℕ
+  pub long : workRoom ≤ length run
+  pub seen : Seen rows due types count n 0 w run len
+  pub held : candOf (e .held) ≡ best (λ m. rowAt rows due 0 .resistance .0 * m) (getD (cands run) 0 blank) (part 1 len (cands run))
+  pub worth : e .worth .0 ≡ value (λ m. rowAt rows due 0 .resistance .0 * m) (candOf (e .held))
+  pub cleared : w′ ≡ written (replicate workRoom zeros) w
+
+-- the four words of a record
+abbrev pub fourOf : List ℕ → List ℕ
+fourOf words = getD words 0 0 ∷ getD words 1 0 ∷ getD words 2 0 ∷ getD words 3 0 ∷ []
+
+abbrev pub Told : Pass → (before after : List ℕ) → Planning → Type 0
+Told e before after r = (after ≡ written (fourOf (e .held .words)) before) × (r ≡ Planned (e .worth) (e .held .load))
+
+-- ---- refusals
+abbrev pub Verdict : (types rows : List ℕ) (due : List ℤ) (count n placement work : ℕ) → Checking → Type 0
+Verdict types rows due count n placement work c =
+    cond (ltb placement placementRoom) (c ≡ Refused Short) (cond (ltb work workRoom) (c ≡ Refused Short) (CheckPromise (tablesOf types rows due) (countsOf count n) c))
+
+abbrev pub isAccepted : Checking → Bool
+isAccepted Accepted = true
+isAccepted (Refused r) = false
+
+abbrev pub refusedBy : Checking → Planning
+refusedBy Accepted = NotPlanned Short
+refusedBy (Refused r) = NotPlanned r
