@@ -1,4 +1,5 @@
 pub mod Rows
 pub mod Links
+pub mod Alike
 pub mod Backward
 pub mod Given

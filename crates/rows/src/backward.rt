@@ -1,29 +1,54 @@
-// Where the rows below each row stand, from the last to the first: the links of a walk that takes later rows before earlier ones.
+// Where the rows below each row stand, in the order in which the planner takes them: later ones before earlier ones, but for sinks.
+use crate::first_below;
 use crate::next_site;
 use crate::place;
 use crate::row_at;
-use crate::wide;
 ghost use mathlib.Core.Path.{_≡_};
-ghost use Prim.Native.Nat.{_+_, _≤_, _<_};
+ghost use Prim.Native.Nat.{_+_, _*_, _≤_, _<_};
 ghost use lib.ListN.{length, getD, set};
 ghost use Rattle.rules.specs.Quantities.{rowsRoom};
+ghost use Rattle.rules.specs.Tables.{rowWords};
 ghost use Rattle.laws.specs.Tabled.{rowsFrom};
-ghost use Rattle.rows.specs.Links.{Earlier, Standing, linksRoom, sitesAt};
-ghost use Rattle.rows.specs.Backward.{Backward, previousAt};
+ghost use Rattle.rows.specs.Links.{Earlier, Standing, linksRoom, nextAt, sitesAt};
+ghost use Rattle.rows.specs.Backward.{Backward, Slot};
 
-const PREVIOUS_AT: usize = 256;
+const ROW_WORDS: usize = 6;
+
+const SINK: u32 = 2;
+
+const NEXT_AT: usize = 256;
 
 const SITES_AT: usize = 512;
 
-// Row i becomes the last below p, before the one that was; nothing is below it so far.
-fn put_row(links: &mut [u16], n: usize, i: usize, p: usize, k: usize)
+// Where row i is put into the links: as the first of the rows below p, or, if it is a sink and the first is none, right behind the first.
+// So a walk that goes down along first rows comes to a sink only where all rows below the same parent are sinks.
+fn slot(rows: &[u32], links: &[u16], n: usize, i: usize, p: usize) -> usize
     requires { ⌜ (p < i) × ((i < n) × (n ≤ rowsRoom)) ⌝ }
-    requires { ⌜ (k ≤ rowsRoom) × (length (now links) ≡ linksRoom) ⌝ }
-    ensures { λ _. ⌜ now (links .exit) ≡ set (set (set (set (now (links .entry)) (previousAt + i) (getD (now (links .entry)) p 0)) p i) i n) (sitesAt + i) k ⌝ }
+    requires { ⌜ (rowWords * n ≤ length (now rows)) × (length (now links) ≡ linksRoom) ⌝ }
+    ensures { λ q. ⌜ Slot (now (links .entry)) n p q ⌝ }
 {
-    let behind = links[p];
-    links[PREVIOUS_AT + i] = behind;
-    links[p] = place(i);
+    if rows[ROW_WORDS * i] < SINK {
+        return p;
+    }
+    let h = first_below(links, p);
+    if n <= h {
+        return p;
+    }
+    if rows[ROW_WORDS * h] < SINK {
+        return NEXT_AT + h;
+    }
+    p
+}
+
+// Row i is put into the links at place q, before what stood there; nothing is below it so far.
+fn put_row(links: &mut [u16], n: usize, i: usize, q: usize, k: usize)
+    requires { ⌜ (q < sitesAt) × ((i < n) × (n ≤ rowsRoom)) ⌝ }
+    requires { ⌜ (k ≤ rowsRoom) × (length (now links) ≡ linksRoom) ⌝ }
+    ensures { λ _. ⌜ now (links .exit) ≡ set (set (set (set (now (links .entry)) (nextAt + i) (getD (now (links .entry)) q 0)) q i) i n) (sitesAt + i) k ⌝ }
+{
+    let behind = links[q];
+    links[NEXT_AT + i] = behind;
+    links[q] = place(i);
     links[i] = place(n);
     links[SITES_AT + i] = place(k);
 }
@@ -42,24 +67,9 @@ pub fn link_back(rows: &[u32], due: &[i64], n: usize, links: &mut [u16])
     let mut i = 1;
     while i < n {
         let x = row_at(rows, due, i);
-        put_row(links, n, i, x.parent as usize, k);
+        let q = slot(rows, links, n, i, x.parent as usize);
+        put_row(links, n, i, q, k);
         k = next_site(x.site, k);
         i += 1;
     }
-}
-
-// The last row below a row, or the number past the last row.
-pub fn last_below(links: &[u16], row: usize) -> usize
-    requires { ⌜ (row < rowsRoom) × (length (now links) ≡ linksRoom) ⌝ }
-    ensures { λ r. ⌜ r ≡ getD (now (links .entry)) row 0 ⌝ }
-{
-    wide(links[row])
-}
-
-// The row before it below the same parent, or the number past the last row.
-pub fn previous_beside(links: &[u16], row: usize) -> usize
-    requires { ⌜ (row < rowsRoom) × (length (now links) ≡ linksRoom) ⌝ }
-    ensures { λ r. ⌜ r ≡ getD (now (links .entry)) (previousAt + row) 0 ⌝ }
-{
-    wide(links[PREVIOUS_AT + row])
 }

@@ -151,7 +151,7 @@ pub fn link(rows: &[u32], due: &[i64], n: usize, links: &mut [u16])
     link_rows(rows, due, n, links);
 }
 
-// The first row below a row, or the number past the last row.
+// The first row below a row, as the links lead, or the number past the last row.
 pub fn first_below(links: &[u16], row: usize) -> usize
     requires { ⌜ (row < rowsRoom) × (length (now links) ≡ linksRoom) ⌝ }
     ensures { λ r. ⌜ r ≡ getD (now (links .entry)) row 0 ⌝ }

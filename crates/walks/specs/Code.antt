@@ -18,15 +18,15 @@ use Rattle.laws.specs.Rows.{row-in, type-in}
 use Rattle.laws.specs.Room.{HasRoom, room-at}
 use Rattle.laws.specs.Walk.{noRow, under, seenAt, atRow-seen}
 use Rattle.laws.specs.Tabled.{rowAt, rowsFrom, rows-length, repeatersFrom, repeaters-length, repeaters-at}
-use Rattle.rows.specs.Links.{sitesAt, row-is}
-use Rattle.rows.specs.Backward.{previousAt}
+use Rattle.rows.specs.Links.{nextAt, sitesAt, row-is}
+use Rattle.rows.specs.Backward.{rowsLeft}
 use Rattle.columns.specs.Parts.{part}
 use Rattle.columns.specs.Run.{Candidate}
 use Rattle.columns.specs.Made.{Gives}
 use Rattle.walks.specs.Shown.{siteList}
 use Rattle.walks.specs.Made.{Given, RowThere, Made, Driven, Wired, Hang, Sited, Started, Typed}
-use Rattle.walks.specs.Spine.{Rising, Spine, Above, spine-above, spine-after, spine-room, last-after, last-below, previous-earlier, previous-upto, end-sink, above-plain}
-use Rattle.walks.specs.Upward.{Siblings, pin-driven, under-driven, driven-made, last-wired, last-made, all-made, previous-after, previous-room, previous-hang, previous-made, made-since}
+use Rattle.walks.specs.Spine.{Rising, Spine, Above, spine-above, spine-after, spine-room, first-after, first-below, chain-upto, end-sink, above-plain}
+use Rattle.walks.specs.Upward.{Siblings, pin-driven, under-driven, driven-made, first-wired, first-made, all-made, next-after, next-room, next-hang, next-made, next-less, made-since}
 
 module _ (ws : List ℕ) (ds : List ℤ) (ts : List ℕ) (count n : ℕ) (ls : List ℕ) (G : Given ws ds ts count n ls) where
   abbrev R : List Row
@@ -62,7 +62,7 @@ module _ (ws : List ℕ) (ds : List ℤ) (ts : List ℕ) (count n : ℕ) (ls : L
   ohms-in i h = rw (row-n h) at (row-in (G .accepted) noRow i (inside-n h) .resistance)
 
   pub rising : Rising ls n
-  rising p h = rw rows-n at (last-after (G .linked) p (inside-n h))
+  rising p h = rw rows-n at (first-after (G .linked) p (inside-n h))
 
   -- ---- at a row on the way down
   module _ (row at : ℕ) (h : row < n) (room : HasRoom count at (n - (row + 1)) (seenAt R row)) (r : ℕ) (way : Spine ls n row r) where
@@ -99,17 +99,17 @@ module _ (ws : List ℕ) (ds : List ℤ) (ts : List ℕ) (count n : ℕ) (ls : L
       pub above : Above ls n row r (x .parent)
       above =
           let (p, A) = spine-above way other in
-          let (d, q) = last-below (G .linked) p r (inside-n (A .inside)) (A .last) (on-way .0) in
+          let d = first-below (G .linked) p r (inside-n (A .inside)) (A .first) (on-way .0) in
           let e : p ≡ x .parent = sym (d .parent) ∙ ap (λ y. y .parent) (row-n way-inside ∙ sym x-is) in
           rw e at A
 
   pub under-made : (row at : ℕ) → row < n → HasRoom count at (n - (row + 1)) (seenAt R row) → (p : ℕ) → Spine ls n row p → getD ls p 0 < n → (w w₁ w₂ : List Candidate) → workRoom ≤ length w₂ → (m : ℕ) → part 0 at w₁ ≡ part 0 at w → Made types (under R p (p + 1)) w₁ w₂ at m → Driven types R p w w₂ at m
   under-made row at h room p way below w w₁ w₂ long m b M =
       let (i, r) = on-way row at h room p way in
-      under-driven (G .accepted) p at i r (above-plain (G .accepted) p (getD ls p 0) (last-below (G .linked) p (getD ls p 0) i refl (inside-n below) .0)) w w₂ long m (made-since w b M)
+      under-driven (G .accepted) p at i r (above-plain (G .accepted) p (getD ls p 0) (first-below (G .linked) p (getD ls p 0) i refl (inside-n below))) w w₂ long m (made-since w b M)
 
   -- ---- the rows under one parent
-  pub sibling-inside : (p c m at : ℕ) (w w₁ : List Candidate) → Siblings types R p c w w₁ at m → c < n
+  pub sibling-inside : (p c m at : ℕ) (w w₁ : List Candidate) → Siblings types R ls p c w w₁ at m → c < n
   sibling-inside p c m at w w₁ S = rw rows-n at (S .below .inside)
 
   module _ (p at : ℕ) (h : p < n) (room : HasRoom count at (n - (p + 1)) (seenAt R p)) where
@@ -118,35 +118,36 @@ module _ (ws : List ℕ) (ds : List ℤ) (ts : List ℕ) (count n : ℕ) (ls : L
 
     module _ (c : ℕ) (c-is : c ≡ getD ls p 0) (below : c < n) (w : List Candidate) (long : workRoom ≤ length w) (own : ℕ) (O : Made types (seenAt R c) w w at own) where
       pub wire-ready : Wired w at own (wireOf (rowAt ws ds c))
-      wire-ready = rw (row-n below) at (last-wired (G .accepted) (G .linked) p at (inside-n h) room-p c (sym c-is) (inside-n below) w long own O)
+      wire-ready = rw (row-n below) at (first-wired (G .accepted) (G .linked) p at (inside-n h) room-p c (sym c-is) (inside-n below) w long own O)
 
-      pub wire-made : (w₁ : List Candidate) (m : ℕ) → Gives w w₁ at m (wireStep (wireOf (rowAt ws ds c)) (part at (at + own) w)) → Siblings types R p c w w₁ at m
-      wire-made w₁ m g = last-made (G .accepted) (G .linked) p at (inside-n h) room-p c (sym c-is) (inside-n below) w long own O w₁ m (rw (row-n below) g)
+      pub wire-made : (w₁ : List Candidate) (m : ℕ) → Gives w w₁ at m (wireStep (wireOf (rowAt ws ds c)) (part at (at + own) w)) → Siblings types R ls p c w w₁ at m
+      wire-made w₁ m g = first-made (G .accepted) (G .linked) p at (inside-n h) room-p c (sym c-is) (inside-n below) w long own O w₁ m (rw (row-n below) g)
 
-    module _ (c : ℕ) (w w₁ : List Candidate) (m : ℕ) (S : Siblings types R p c w w₁ at m) (s : ℕ) (s-is : s ≡ getD ls (previousAt + c) 0) where
+    module _ (c : ℕ) (w w₁ : List Candidate) (m : ℕ) (S : Siblings types R ls p c w w₁ at m) (s : ℕ) (s-is : s ≡ getD ls (nextAt + c) 0) where
       pub siblings-made : s ≡ n → Made types (under R p (p + 1)) w w₁ at m
       siblings-made e = all-made (G .accepted) (G .linked) p at (inside-n h) room-p c w w₁ m S (sym s-is ∙ e ∙ sym rows-n)
 
       module _ (more : ¬ (s ≡ n)) where
         pub sibling-more : s < n
-        sibling-more = omega (arith, previous-upto (G .linked) p c s (S .below) (sym s-is), rows-n)
-
-        pub sibling-earlier : s < c
-        sibling-earlier = previous-earlier (G .linked) p c s (S .below) (sym s-is) (inside-n sibling-more)
+        sibling-more = omega (arith, chain-upto (S .chain), s-is, rows-n)
 
         module _ (long₁ : workRoom ≤ length w₁) where
           pub sibling-after : p < s
-          sibling-after = previous-after (G .accepted) (G .linked) p at (inside-n h) room-p c w w₁ m S long₁ s (sym s-is) (inside-n sibling-more)
+          sibling-after = next-after (G .accepted) (G .linked) p at (inside-n h) room-p c w w₁ m S long₁ s (sym s-is) (inside-n sibling-more)
+
+          -- one row less is left
+          pub sibling-less : rowsLeft ls n n (getD ls (nextAt + s) 0) < rowsLeft ls n n (getD ls (nextAt + c) 0)
+          sibling-less = rw rows-n at (next-less (G .accepted) (G .linked) p at (inside-n h) room-p c w w₁ m S long₁ s (sym s-is) (inside-n sibling-more))
 
           pub sibling-room : HasRoom count (at + m) (n - (s + 1)) (seenAt R s)
-          sibling-room = rw (types-n, rows-n) at (previous-room (G .accepted) (G .linked) p at (inside-n h) room-p c w w₁ m S long₁ s (sym s-is) (inside-n sibling-more))
+          sibling-room = rw (types-n, rows-n) at (next-room (G .accepted) (G .linked) p at (inside-n h) room-p c w w₁ m S long₁ s (sym s-is) (inside-n sibling-more))
 
           module _ (w₂ : List Candidate) (long₂ : workRoom ≤ length w₂) (own : ℕ) (O : Made types (seenAt R s) w₁ w₂ (at + m) own) where
             pub sibling-hang : Hang w₂ at m own (wireOf (rowAt ws ds s))
-            sibling-hang = rw (row-n sibling-more) at (previous-hang (G .accepted) (G .linked) p at (inside-n h) room-p c w w₁ m S long₁ s (sym s-is) (inside-n sibling-more) w₂ long₂ own O)
+            sibling-hang = rw (row-n sibling-more) at (next-hang (G .accepted) (G .linked) p at (inside-n h) room-p c w w₁ m S long₁ s (sym s-is) (inside-n sibling-more) w₂ long₂ own O)
 
-            pub sibling-made : (w₃ : List Candidate) (len : ℕ) → Gives w₂ w₃ at len (merge join (wireStep (wireOf (rowAt ws ds s)) (part (at + m) (at + m + own) w₂)) (part at (at + m) w₂)) → Siblings types R p s w w₃ at len
-            sibling-made w₃ len g = previous-made (G .accepted) (G .linked) p at (inside-n h) room-p c w w₁ m S long₁ s (sym s-is) (inside-n sibling-more) w₂ long₂ own O w₃ len (rw (row-n sibling-more) g)
+            pub sibling-made : (w₃ : List Candidate) (len : ℕ) → Gives w₂ w₃ at len (merge join (wireStep (wireOf (rowAt ws ds s)) (part (at + m) (at + m + own) w₂)) (part at (at + m) w₂)) → Siblings types R ls p s w w₃ at len
+            sibling-made w₃ len g = next-made (G .accepted) (G .linked) p at (inside-n h) room-p c w w₁ m S long₁ s (sym s-is) (inside-n sibling-more) w₂ long₂ own O w₃ len (rw (row-n sibling-more) g)
 
 -- the room at the start of the work area
 pub start-room : (ws : List ℕ) (ds : List ℤ) (ts : List ℕ) (count n : ℕ) → Accepted (repeatersFrom ts 0 count) (rowsFrom ws ds 0 n) → (row : ℕ) → row < n → HasRoom count 0 (n - (row + 1)) (seenAt (rowsFrom ws ds 0 n) row)

@@ -44,7 +44,7 @@ module _ (rows : List Row) where
   from-step c h = under-taken rows (getD rows c noRow .parent) c h refl
 
 -- ---- sites add up
-besides : (w : Wire) (u v : Option Tree) → over sitesOn (beside (wired w u) v) ≡ over sitesOn u + over sitesOn v
+pub besides : (w : Wire) (u v : Option Tree) → over sitesOn (beside (wired w u) v) ≡ over sitesOn u + over sitesOn v
 unfolding sitesOn
 besides w none v = omega arith
 besides w (some t) none = omega arith

@@ -62,10 +62,10 @@ module _ {types : List Repeater} {rows : List Row} (ok : Accepted types rows) wh
   at-length w at len h g = part-length at (at + len) w (omega arith) ∙ omega arith
 
   -- so many that they fit
-  made-few : (u : Option Tree) (w : List Candidate) (at len : ℕ) → workRoom ≤ length w → at + len ≤ workRoom → ProperIf u → Shows types u (part at (at + len) w) → len ≤ 1 + length types * over sitesOn u
+  pub made-few : (u : Option Tree) (w : List Candidate) (at len : ℕ) → workRoom ≤ length w → at + len ≤ workRoom → ProperIf u → Shows types u (part at (at + len) w) → len ≤ 1 + length types * over sitesOn u
   made-few u w at len h g p s = subst (λ (z : ℕ). z ≤ 1 + length types * over sitesOn u) (at-length w at len h g) (shows-length types u (part at (at + len) w) p s)
 
-  made-some : (u : Option Tree) (w : List Candidate) (at len : ℕ) → workRoom ≤ length w → at + len ≤ workRoom → (u ≡ none → ⊥) → Shows types u (part at (at + len) w) → 1 ≤ len
+  pub made-some : (u : Option Tree) (w : List Candidate) (at len : ℕ) → workRoom ≤ length w → at + len ≤ workRoom → (u ≡ none → ⊥) → Shows types u (part at (at + len) w) → 1 ≤ len
   made-some u w at len h g f s = subst (λ (z : ℕ). 1 ≤ z) (at-length w at len h g) (shows-any types u (part at (at + len) w) f s)
 
   -- ---- at a row: x is row r, and its site, if it has one, is number k
@@ -157,7 +157,7 @@ module _ {types : List Repeater} {rows : List Row} (ok : Accepted types rows) wh
     step = rw link-is (from-step rows c inside)
 
     -- a list that shows the row is ready for its wire
-    own-wired : (w : List Candidate) (place own : ℕ) → workRoom ≤ length w → place + own ≤ workRoom → Shows types (seenAt rows c) (part place (place + own) w) → Wired w place own link
+    pub own-wired : (w : List Candidate) (place own : ℕ) → workRoom ≤ length w → place + own ≤ workRoom → Shows types (seenAt rows c) (part place (place + own) w) → Wired w place own link
     own-wired w place own long g s = record {
       some = made-some (seenAt rows c) w place own long g (seen-some ok c inside) s;
       place = g;

@@ -1,7 +1,8 @@
--- The way down from a row along last rows below, as the links lead; and what the links say of the rows under one parent. Assumes nothing.
+-- The way down from a row along first rows below, as the links lead; and what the links say of the rows under one parent. Assumes nothing.
 use mathlib.Core.Path.{_≡_, refl, ap, _∙_}
 use mathlib.Core.Bool.{not}
 use mathlib.Core.List.{List}
+use mathlib.Core.Option.{Option, none}
 use Prim.Native.Nat.{ℕ, zero, suc, _+_, _-_, _≤_, _<_}
 use native.Mathlib.Omega.{arith}
 use native.Mathlib.Decide.{ℕ-discrete}
@@ -14,33 +15,36 @@ use Rattle.rules.specs.declared.Pin.{Pin}
 use Rattle.rules.specs.declared.Row.{Row}
 use Rattle.rules.specs.Entries.{Repeater}
 use Rattle.rules.specs.Refusals.{isSink}
+use Rattle.rules.specs.Net.{Tree, beside}
 use Rattle.rules.specs.Pairs.{sitesOn}
 use Rattle.laws.specs.Accepted.{Accepted}
 use Rattle.laws.specs.Rows.{later-at}
 use Rattle.laws.specs.Sums.{over}
 use Rattle.laws.specs.Room.{HasRoom, room-under}
-use Rattle.laws.specs.Walk.{noRow, sitesBefore, under, seenAt, child, child-end, child-taken, under-passed}
-use Rattle.rows.specs.Backward.{Backward, Last, nothing, there, previousAt}
-use Rattle.walks.specs.Links.{from, sites-step, room-alone, first-inside}
+use Rattle.laws.specs.Walk.{noRow, sitesBefore, under, seenAt, under-end, under-passed}
+use Rattle.rows.specs.Links.{nextAt}
+use Rattle.rows.specs.Alike.{Alike, alike-none, beside-none}
+use Rattle.rows.specs.Backward.{Backward, Chain, end, next, hungAt}
+use Rattle.walks.specs.Links.{from, from-child, from-some, sites-step, room-alone, first-inside}
 
--- the last row below a row comes after it, or is the number past the last row
+-- the first row below a row comes after it, or is the number past the last row
 abbrev pub Rising : List ℕ → (n : ℕ) → Type 0
 Rising links n = (p : ℕ) → p < n → (p < getD links p 0) × (getD links p 0 ≤ n)
 
--- r is on the way from a row down along last rows below
+-- r is on the way from a row down along first rows below
 pub data Spine (links : List ℕ) (n row : ℕ) : ℕ → Type 0 where
   here : {r : ℕ} → r ≡ row → Spine links n row r
   down : {r : ℕ} (p : ℕ) → p < n → Spine links n row p → getD links p 0 ≡ r → r < n → Spine links n row r
 
--- each row on the way but the first is the last below another on it
+-- each row on the way but the start is the first below another on it
 pub record Above (links : List ℕ) (n row r p : ℕ) : Type 0 where
   pub inside : p < n
   pub way : Spine links n row p
-  pub last : getD links p 0 ≡ r
+  pub first : getD links p 0 ≡ r
 
 pub spine-above : {links : List ℕ} {n row r : ℕ} → Spine links n row r → ¬ (r ≡ row) → (p : ℕ) × Above links n row r p
 spine-above (here e) f = absurd (f e)
-spine-above (down p h s e g) f = (p, record { inside = h; way = s; last = e })
+spine-above (down p h s e g) f = (p, record { inside = h; way = s; first = e })
 
 pub spine-after : {links : List ℕ} {n row r : ℕ} → Rising links n → Spine links n row r → row ≤ r
 spine-after rising (here e) = omega arith
@@ -52,65 +56,58 @@ pub record Below (rows : List Row) (p c : ℕ) : Type 0 where
   pub inside : c < length rows
   pub parent : getD rows c noRow .parent ≡ p
 
+-- ---- a chain of rows below p
+-- its first row, and the rest
+pub record Linked (rows : List Row) (links : List ℕ) (p c left : ℕ) (u : Option Tree) : Type 0 where
+  pub below : Below rows p c
+  pub less : ℕ
+  pub less-is : left ≡ suc less
+  pub rest : Option Tree
+  pub rest-is : u ≡ beside (hungAt rows c) rest
+  pub chain : Chain rows links p (length rows) (getD links (nextAt + c) 0) less rest
+
+pub chain-next : {rows : List Row} {links : List ℕ} {p c left : ℕ} {u : Option Tree} → Chain rows links p (length rows) c left u → c < length rows → Linked rows links p c left u
+chain-next (end e z f) g = absurd (omega arith)
+chain-next (next less v a b e z f ch) g = record { below = record { after = a; inside = b; parent = e }; less = less; less-is = z; rest = v; rest-is = f; chain = ch }
+
+pub chain-upto : {rows : List Row} {links : List ℕ} {p c left : ℕ} {u : Option Tree} → Chain rows links p (length rows) c left u → c ≤ length rows
+chain-upto (end e z f) = omega arith
+chain-upto (next less v a b e z f ch) = omega arith
+
+-- past the last row there is none
+pub chain-none : {rows : List Row} {links : List ℕ} {p left : ℕ} {u : Option Tree} → Chain rows links p (length rows) (length rows) left u → u ≡ none
+chain-none (end e z f) = f
+chain-none (next less v a b e z f ch) = absurd (omega arith)
+
+-- something hangs under each row that is no sink
+hung-none : {types : List Repeater} {rows : List Row} → Accepted types rows → (r : ℕ) → r < length rows → T (not (isSink (getD rows r noRow .kind))) → (under rows r (r + 1) ≡ none → ⊥)
+hung-none ok r h plain e = let (a, b) = first-inside ok r h plain in from-some ok _ b (from-child _ r (r + 1) (omega arith) ∙ e)
+
 -- ---- what the links say
 module _ {rows : List Row} {links : List ℕ} (B : Backward rows links) where
-  pub last-after : Rising links (length rows)
-  last-after p h = go (B .last p h)
+  pub first-after : Rising links (length rows)
+  first-after p h = go (B .below p h .chain)
     where
-      go : {c : ℕ} → Last rows p (length rows) c → (p < c) × (c ≤ length rows)
-      go (nothing f q) = (omega arith, omega arith)
-      go (there a b f q) = (a, omega arith)
+      go : {c left : ℕ} {u : Option Tree} → Chain rows links p (length rows) c left u → (p < c) × (c ≤ length rows)
+      go (end e z f) = (omega arith, omega arith)
+      go (next less v a b e z f ch) = (a, omega arith)
 
-  -- the last row below p: no row after it is below p
-  pub last-below : (p c : ℕ) → p < length rows → getD links p 0 ≡ c → c < length rows → Below rows p c × (child rows p (c + 1) ≡ length rows)
-  last-below p c h e g = go (rw e at (B .last p h))
-    where
-      go : Last rows p (length rows) c → Below rows p c × (child rows p (c + 1) ≡ length rows)
-      go (nothing f q) = absurd (omega arith)
-      go (there a b f q) = (record { after = a; inside = b; parent = f }, q ∙ child-end rows p (length rows) (omega arith))
+  -- the first row below p
+  pub first-below : (p c : ℕ) → p < length rows → getD links p 0 ≡ c → c < length rows → Below rows p c
+  first-below p c h e g = chain-next (rw e at (B .below p h .chain)) g .below
 
-  -- the row before c below p: c is the next behind it
-  pub previous-below : (p c s : ℕ) → Below rows p c → getD links (previousAt + c) 0 ≡ s → s < length rows → Below rows p s × (child rows p (s + 1) ≡ c)
-  previous-below p c s d e g = go (rw (d .parent, e) at (B .previous c (omega (arith, d .after)) (d .inside)))
-    where
-      go : Last rows p c s → Below rows p s × (child rows p (s + 1) ≡ c)
-      go (nothing f q) = absurd (omega arith)
-      go (there a b f q) = (record { after = a; inside = omega (arith, d .inside); parent = f }, q ∙ child-taken rows p c (d .inside) (d .parent))
+  -- all the rows below p
+  pub all-below : (p : ℕ) → (h : p < length rows) → Alike (B .below p h .hung) (under rows p (p + 1))
+  all-below p h = rw (under-end rows p (length rows) (omega arith), beside-none (B .below p h .hung)) at (B .below p h .alike)
 
-  -- where there is none, c is the first below p
-  pub first-below : (p c : ℕ) → Below rows p c → getD links (previousAt + c) 0 ≡ length rows → child rows p (p + 1) ≡ c
-  first-below p c d e = go (rw (d .parent, e) at (B .previous c (omega (arith, d .after)) (d .inside)))
-    where
-      go : Last rows p c (length rows) → child rows p (p + 1) ≡ c
-      go (nothing f q) = q ∙ child-taken rows p c (d .inside) (d .parent)
-      go (there a b f q) = absurd (omega (arith, d .inside))
+  -- under a row with none below it nothing hangs
+  pub none-below : (r : ℕ) → r < length rows → getD links r 0 ≡ length rows → under rows r (r + 1) ≡ none
+  none-below r h e = alike-none (under rows r (r + 1)) (rw (chain-none (rw e at (B .below r h .chain))) at (all-below r h))
 
-  pub previous-earlier : (p c s : ℕ) → Below rows p c → getD links (previousAt + c) 0 ≡ s → s < length rows → s < c
-  previous-earlier p c s d e g = go (rw (d .parent, e) at (B .previous c (omega (arith, d .after)) (d .inside)))
-    where
-      go : Last rows p c s → s < c
-      go (nothing f q) = absurd (omega arith)
-      go (there a b f q) = b
-
-  pub previous-upto : (p c s : ℕ) → Below rows p c → getD links (previousAt + c) 0 ≡ s → s ≤ length rows
-  previous-upto p c s d e = go (rw (d .parent, e) at (B .previous c (omega (arith, d .after)) (d .inside)))
-    where
-      go : Last rows p c s → s ≤ length rows
-      go (nothing f q) = omega arith
-      go (there a b f q) = omega (arith, d .inside)
-
-  -- a row with none below it is a sink
+  -- and it is a sink
   pub end-sink : {types : List Repeater} → Accepted types rows → (r : ℕ) → r < length rows → getD links r 0 ≡ length rows → (kind : Kind) → getD rows r noRow .kind ≡ kind → (pin : Pin) × (kind ≡ Sink pin)
-  end-sink ok r h e Driver k = absurd (plain (rw e at (B .last r h)) (first-inside ok r h (rw k tt)))
-    where
-      plain : Last rows r (length rows) (length rows) → (r < child rows r (r + 1)) × (child rows r (r + 1) < length rows) → ⊥
-      plain (nothing f q) z = omega (arith, z, q ∙ child-end rows r (length rows) (omega arith))
-      plain (there a b f q) z = omega arith
-  end-sink ok r h e Point k = absurd (plain (rw e at (B .last r h)) (first-inside ok r h (rw k tt)))
-    where
-      plain : Last rows r (length rows) (length rows) → (r < child rows r (r + 1)) × (child rows r (r + 1) < length rows) → ⊥
-      plain (nothing f q) z = omega (arith, z, q ∙ child-end rows r (length rows) (omega arith))
-      plain (there a b f q) z = omega arith
+  end-sink ok r h e Driver k = absurd (hung-none ok r h (rw k tt) (none-below r h e))
+  end-sink ok r h e Point k = absurd (hung-none ok r h (rw k tt) (none-below r h e))
   end-sink ok r h e (Sink pin) k = (pin, refl)
 
 -- ---- the room passes to every row below
@@ -145,5 +142,4 @@ module _ {types : List Repeater} {rows : List Row} (ok : Accepted types rows) wh
   spine-room B k row at r h g (here e) = rw e (h, g)
   spine-room B k row at r h g (down p i s e l) =
       let (a, b) = spine-room B k row at p h g s in
-      let (d, q) = last-below B p r i e l in
-      (l, room-alone k rows r at l (room-child k p r at d b))
+      (l, room-alone k rows r at l (room-child k p r at (first-below B p r i e l) b))

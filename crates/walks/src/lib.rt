@@ -1,5 +1,5 @@
-// The recursion over the table: the list at a row, and the list of what hangs under a row. Of the rows under the same parent the last
-// one's list is made first, by a loop; only the rows before it recurse.
+// The recursion over the table: the list at a row, and the list of what hangs under a row. Of the rows under the same parent the list of
+// the first, as the links lead, is made first, by a loop; only the rows behind it recurse.
 use rules::Kind;
 ghost use mathlib.Core.Path.{_≡_};
 ghost use Prim.Native.Nat.{_+_, _-_, _≤_, _<_};
@@ -43,7 +43,7 @@ pub fn wire_row(
     lists::wires::wire_list(loads, times, words, at, n, r, c)
 }
 
-// A row's own list behind its wire, joined with the list of the later rows under the same parent, which stands before it.
+// A row's own list behind its wire, joined with the list of other rows under the same parent, which stands before it.
 pub fn hang(
     rows: &[u32],
     due: &[i64],
@@ -151,7 +151,7 @@ pub fn pin_list(
     1
 }
 
-// From a row down along last rows below to one that has none.
+// From a row down along first rows below to one that has none.
 pub fn deepest(links: &[u16], n: usize, row: usize) -> usize
     requires { ⌜ (row < n) × (n ≤ rowsRoom) ⌝ }
     requires { ⌜ (length (now links) ≡ linksRoom) × Rising (now links) n ⌝ }
@@ -159,10 +159,10 @@ pub fn deepest(links: &[u16], n: usize, row: usize) -> usize
     ensures end { λ r. ⌜ (r < n) × (getD (now (links .entry)) r 0 ≡ n) ⌝ }
 {
     let mut r = row;
-    let mut c = rows::backward::last_below(links, r);
+    let mut c = rows::first_below(links, r);
     while c != n {
         r = c;
-        c = rows::backward::last_below(links, r);
+        c = rows::first_below(links, r);
     }
     r
 }
@@ -226,8 +226,8 @@ pub fn seen(
     }
 }
 
-// The list of what hangs under row p, made at a place where the list at p's last row below stands: that one behind its wire, then each row
-// before it under p, its own list behind what is made already. A sink's list is made here, so that only other rows recurse.
+// The list of what hangs under row p, made at a place where the list at p's first row below stands: that one behind its wire, then each row
+// that the links lead to under p, its own list behind what is made already. A sink's list is made here, so that only other rows recurse.
 pub fn below(
     rows: &[u32],
     due: &[i64],
@@ -249,14 +249,14 @@ pub fn below(
     requires { ⌜ Made (repeatersFrom (now types) 0 count) (seenAt (rowsFrom (now rows) (now due) 0 n) (getD (now links) p 0)) (run (now loads) (now times) (now words)) (run (now loads) (now times) (now words)) at len ⌝ }
     ensures { λ m. ⌜ Made (repeatersFrom (now (types .entry)) 0 count) (under (rowsFrom (now (rows .entry)) (now (due .entry)) 0 n) p (p + 1)) (run (now (loads .entry)) (now (times .entry)) (now (words .entry))) (run (now (loads .exit)) (now (times .exit)) (now (words .exit))) at m ⌝ }
 {
-    let mut c = rows::backward::last_below(links, p);
+    let mut c = rows::first_below(links, p);
     let mut m = wire_row(rows, due, loads, times, words, c, at, len);
     loop {
-        c = rows::backward::previous_beside(links, c);
+        c = rows::next_beside(links, c);
         if c == n {
             return m;
         }
-        let d = rows::backward::last_below(links, c);
+        let d = rows::first_below(links, c);
         if d == n {
             let own = pin_list(
                 rows,

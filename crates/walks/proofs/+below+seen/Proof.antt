@@ -1,5 +1,5 @@
--- `walks::below` and `walks::seen` meet their contracts. What falls is twice the rows left, and one for `seen`; in the loops the row
--- falls. Assumes nothing.
+-- `walks::below` and `walks::seen` meet their contracts. What falls is twice the rows left, and one for `seen`; in `below`'s loop the
+-- rows left under the parent fall, in that of `seen` the row. Assumes nothing.
 use mathlib.Core.Path.{_≡_, refl, sym, _∙_}
 use Prim.Native.Nat.{ℕ, _+_, _*_, _-_, _<_}
 use native.Mathlib.Omega.{arith}
@@ -8,13 +8,15 @@ use lib.ListN.{getD}
 use Rattle.rules.specs.Quantities.{workRoom}
 use Rattle.laws.specs.Walk.{seenAt}
 use Rattle.laws.specs.Tabled.{rowsFrom, repeatersFrom}
+use Rattle.rows.specs.Links.{nextAt}
+use Rattle.rows.specs.Backward.{rowsLeft}
 use Rattle.columns.specs.Made.{Room, room-run}
 use Rattle.columns.specs.Run.{run}
 use Rattle.walks.specs.Made.{Made, Driven, Kept}
 use Rattle.walks.specs.Steps.{room-kept}
 use Rattle.walks.specs.Spine.{Spine, here}
 use Rattle.walks.specs.Upward.{Siblings, made-since, made-here, siblings-here, driven-here}
-use Rattle.walks.specs.Code.{typed, row-there, ohms-in, rising, way-inside, way-after, way-room, start-fits, started, driven-sited, site-made, above, under-made, wire-ready, wire-made, sibling-inside, siblings-made, sibling-more, sibling-earlier, sibling-after, sibling-room, sibling-hang, sibling-made}
+use Rattle.walks.specs.Code.{typed, row-there, ohms-in, rising, way-inside, way-after, way-room, start-fits, started, driven-sited, site-made, above, under-made, wire-ready, wire-made, sibling-inside, siblings-made, sibling-more, sibling-less, sibling-after, sibling-room, sibling-hang, sibling-made}
 use borrow.Fn.Kinds.{In}
 use borrow.Fn.PlainCycle.{Measures, is, falls, and}
 use Rattle.walks.proofs.below.Reads as below
@@ -29,8 +31,8 @@ use Rattle.walks.proofs.pin_list.Reads as pin-list-reads
 use Rattle.walks.proofs.put_site.Reads as put-site-reads
 use Rattle.walks.proofs.start.Reads as start-reads
 use Rattle.walks.proofs.wire_row.Reads as wire-row-reads
-use Rattle.rows.proofs.backward.last_below.Reads as last-below-reads
-use Rattle.rows.proofs.backward.previous_beside.Reads as previous-beside-reads
+use Rattle.rows.proofs.first_below.Reads as first-below-reads
+use Rattle.rows.proofs.next_beside.Reads as next-beside-reads
 use Rattle.rows.proofs.row_at.Reads as row-at-reads
 use Rattle.walks.proofs.+below+seen.{statement}
 use Rattle.walks.proofs.+below+seen.Tie.{close}
@@ -55,18 +57,18 @@ seen-below t = and 7 seen-kinds.ps (falls 7 seen-kinds.ps _<_ μ-seen t) seen.Pr
 
 abbrev below-Inv-loop : below-lts.InvT-loop
 below-Inv-loop rows due types count links loads₀ times₀ words₀ n p at len c₀ m₀ loads times words c m =
-    Room loads times words × (Siblings (repeatersFrom types 0 count) (rowsFrom rows due 0 n) p c (run loads₀ times₀ words₀) (run loads times words) at m × Kept loads₀ times₀ words₀ loads times words)
+    Room loads times words × (Siblings (repeatersFrom types 0 count) (rowsFrom rows due 0 n) links p c (run loads₀ times₀ words₀) (run loads times words) at m × Kept loads₀ times₀ words₀ loads times words)
 
 abbrev below-μ-loop : below-lts.MeasureT-loop
-below-μ-loop rows due types count links loads₀ times₀ words₀ n p at len c₀ m₀ loads times words c m = c
+below-μ-loop rows due types count links loads₀ times₀ words₀ n p at len c₀ m₀ loads times words c m = rowsLeft links n n (getD links (nextAt + c) 0)
 
-below-last-below-requires : (t : ℕ) → below-lts.Need-last-below-requires (
-  last-below-reads.Asked,
-  last-below-reads.Learnt,
+below-first-below-requires : (t : ℕ) → below-lts.Need-first-below-requires (
+  first-below-reads.Asked,
+  first-below-reads.Learnt,
   wire-row-reads.Asked,
   wire-row-reads.Learnt,
-  previous-beside-reads.Asked,
-  previous-beside-reads.Learnt,
+  next-beside-reads.Asked,
+  next-beside-reads.Learnt,
   pin-list-reads.Asked,
   pin-list-reads.Learnt,
   hang-reads.Asked,
@@ -74,17 +76,17 @@ below-last-below-requires : (t : ℕ) → below-lts.Need-last-below-requires (
   seen-below t,
   seen.Post,
 ) (below-at t) below.Post below-Inv-loop below-μ-loop
-below-last-below-requires t c κs =
+below-first-below-requires t c κs =
     let p = c .before .before .before .before .before .pre .1 in
     (omega (arith, p .0 .standing .few, p .1 .0 .0), p .0 .linked .long)
 
 below-wire-row-requires : (t : ℕ) → below-lts.Need-wire-row-requires (
-  last-below-reads.Asked,
-  last-below-reads.Learnt,
+  first-below-reads.Asked,
+  first-below-reads.Learnt,
   wire-row-reads.Asked,
   wire-row-reads.Learnt,
-  previous-beside-reads.Asked,
-  previous-beside-reads.Learnt,
+  next-beside-reads.Asked,
+  next-beside-reads.Learnt,
   pin-list-reads.Asked,
   pin-list-reads.Learnt,
   hang-reads.Asked,
@@ -95,19 +97,19 @@ below-wire-row-requires : (t : ℕ) → below-lts.Need-wire-row-requires (
 below-wire-row-requires t c κs =
     let a = c .before .before .before .before .before .before .before .before .before .args in
     let p = c .before .before .before .before .before .before .before .before .before .pre .1 in
-    let y = c .before .before .before .last-below in
+    let y = c .before .before .before .first-below in
     let w = run (a .loads .now) (a .times .now) (a .words .now) in
     let h : y .result < a .n = rw (y .ensures) (p .1 .0 .1) in
     let o : Made (repeatersFrom (a .types .now) 0 (a .count)) (seenAt (rowsFrom (a .rows .now) (a .due .now) 0 (a .n)) (y .result)) w w (a .at) (a .len) = rw (y .ensures) (p .1 .1 .1 .1) in
     (row-there (a .rows .now) (a .due .now) (a .types .now) (a .count) (a .n) (a .links .now) (p .0) (y .result) h, (p .1 .1 .0, (ohms-in (a .rows .now) (a .due .now) (a .types .now) (a .count) (a .n) (a .links .now) (p .0) (y .result) h, wire-ready (a .rows .now) (a .due .now) (a .types .now) (a .count) (a .n) (a .links .now) (p .0) (a .p) (a .at) (p .1 .0 .0) (p .1 .1 .1 .0) (y .result) (y .ensures) h w (room-run workRoom (p .1 .1 .0) (omega arith)) (a .len) o)))
 
 below-loop-holds : (t : ℕ) → below-lts.Need-loop-holds (
-  last-below-reads.Asked,
-  last-below-reads.Learnt,
+  first-below-reads.Asked,
+  first-below-reads.Learnt,
   wire-row-reads.Asked,
   wire-row-reads.Learnt,
-  previous-beside-reads.Asked,
-  previous-beside-reads.Learnt,
+  next-beside-reads.Asked,
+  next-beside-reads.Learnt,
   pin-list-reads.Asked,
   pin-list-reads.Learnt,
   hang-reads.Asked,
@@ -118,7 +120,7 @@ below-loop-holds : (t : ℕ) → below-lts.Need-loop-holds (
 below-loop-holds t c =
     let a = c .before .before .before .before .before .before .before .before .before .before .before .before .before .before .before .args in
     let p = c .before .before .before .before .before .before .before .before .before .before .before .before .before .before .before .pre .1 in
-    let y = c .before .before .before .before .before .before .before .before .before .last-below in
+    let y = c .before .before .before .before .before .before .before .before .before .first-below in
     let g = c .before .before .before .before .before .wire-row in
     let w = run (a .loads .now) (a .times .now) (a .words .now) in
     let h : y .result < a .n = rw (y .ensures) (p .1 .0 .1) in
@@ -126,13 +128,13 @@ below-loop-holds t c =
     let s = wire-made (a .rows .now) (a .due .now) (a .types .now) (a .count) (a .n) (a .links .now) (p .0) (a .p) (a .at) (p .1 .0 .0) (p .1 .1 .1 .0) (y .result) (y .ensures) h w (room-run workRoom (p .1 .1 .0) (omega arith)) (a .len) o (run (g .last .1 .1 .0) (g .last .1 .1 .1 .0) (g .last .1 .1 .1 .1 .0)) (g .result) (g .ensures) in
     (room-kept _ _ _ (p .1 .1 .0) (c .before .before .before .before .loads .given) (c .before .before .times .given) (c .before .words .given), (siblings-here s, record { loads = refl; times = refl; words = refl }))
 
-below-previous-beside-requires : (t : ℕ) → below-lts.Need-previous-beside-requires (
-  last-below-reads.Asked,
-  last-below-reads.Learnt,
+below-next-beside-requires : (t : ℕ) → below-lts.Need-next-beside-requires (
+  first-below-reads.Asked,
+  first-below-reads.Learnt,
   wire-row-reads.Asked,
   wire-row-reads.Learnt,
-  previous-beside-reads.Asked,
-  previous-beside-reads.Learnt,
+  next-beside-reads.Asked,
+  next-beside-reads.Learnt,
   pin-list-reads.Asked,
   pin-list-reads.Learnt,
   hang-reads.Asked,
@@ -140,19 +142,19 @@ below-previous-beside-requires : (t : ℕ) → below-lts.Need-previous-beside-re
   seen-below t,
   seen.Post,
 ) (below-at t) below.Post below-Inv-loop below-μ-loop
-below-previous-beside-requires t c κs =
+below-next-beside-requires t c κs =
     let a = c .before .before .before .before .before .before .before .before .before .before .before .before .before .before .before .before .args in
     let p = c .before .before .before .before .before .before .before .before .before .before .before .before .before .before .before .before .pre .1 in
     let l = c .loop in
     (omega (arith, p .0 .standing .few, sibling-inside (a .rows .now) (a .due .now) (a .types .now) (a .count) (a .n) (a .links .now) (p .0) (a .p) (l .c) (l .m) (a .at) _ _ (l .inv .1 .0)), p .0 .linked .long)
 
 below-same-length : (t : ℕ) → below-lts.Need-same-length (
-  last-below-reads.Asked,
-  last-below-reads.Learnt,
+  first-below-reads.Asked,
+  first-below-reads.Learnt,
   wire-row-reads.Asked,
   wire-row-reads.Learnt,
-  previous-beside-reads.Asked,
-  previous-beside-reads.Learnt,
+  next-beside-reads.Asked,
+  next-beside-reads.Learnt,
   pin-list-reads.Asked,
   pin-list-reads.Learnt,
   hang-reads.Asked,
@@ -163,12 +165,12 @@ below-same-length : (t : ℕ) → below-lts.Need-same-length (
 below-same-length t c = c .before .before .loop .inv .1 .1 .loads ∙ c .before .before .before .before .before .before .before .loads .given
 
 below-same-length-2 : (t : ℕ) → below-lts.Need-same-length-2 (
-  last-below-reads.Asked,
-  last-below-reads.Learnt,
+  first-below-reads.Asked,
+  first-below-reads.Learnt,
   wire-row-reads.Asked,
   wire-row-reads.Learnt,
-  previous-beside-reads.Asked,
-  previous-beside-reads.Learnt,
+  next-beside-reads.Asked,
+  next-beside-reads.Learnt,
   pin-list-reads.Asked,
   pin-list-reads.Learnt,
   hang-reads.Asked,
@@ -179,12 +181,12 @@ below-same-length-2 : (t : ℕ) → below-lts.Need-same-length-2 (
 below-same-length-2 t c = c .before .before .loop .inv .1 .1 .times ∙ c .before .before .before .before .before .times .given
 
 below-same-length-3 : (t : ℕ) → below-lts.Need-same-length-3 (
-  last-below-reads.Asked,
-  last-below-reads.Learnt,
+  first-below-reads.Asked,
+  first-below-reads.Learnt,
   wire-row-reads.Asked,
   wire-row-reads.Learnt,
-  previous-beside-reads.Asked,
-  previous-beside-reads.Learnt,
+  next-beside-reads.Asked,
+  next-beside-reads.Learnt,
   pin-list-reads.Asked,
   pin-list-reads.Learnt,
   hang-reads.Asked,
@@ -195,12 +197,12 @@ below-same-length-3 : (t : ℕ) → below-lts.Need-same-length-3 (
 below-same-length-3 t c = c .before .before .loop .inv .1 .1 .words ∙ c .before .before .before .before .words .given
 
 below-returns : (t : ℕ) → below-lts.Need-returns (
-  last-below-reads.Asked,
-  last-below-reads.Learnt,
+  first-below-reads.Asked,
+  first-below-reads.Learnt,
   wire-row-reads.Asked,
   wire-row-reads.Learnt,
-  previous-beside-reads.Asked,
-  previous-beside-reads.Learnt,
+  next-beside-reads.Asked,
+  next-beside-reads.Learnt,
   pin-list-reads.Asked,
   pin-list-reads.Learnt,
   hang-reads.Asked,
@@ -212,16 +214,16 @@ below-returns t c =
     let a = c .before .before .before .before .before .before .before .before .before .before .before .before .before .before .before .before .before .before .args in
     let p = c .before .before .before .before .before .before .before .before .before .before .before .before .before .before .before .before .before .before .pre .1 in
     let l = c .before .before .loop in
-    let y = c .before .previous-beside in
+    let y = c .before .next-beside in
     made-since (run (a .loads .now) (a .times .now) (a .words .now)) (c .before .before .before .before .before .before .before .before .wire-row .ensures .before) (siblings-made (a .rows .now) (a .due .now) (a .types .now) (a .count) (a .n) (a .links .now) (p .0) (a .p) (a .at) (p .1 .0 .0) (p .1 .1 .1 .0) (l .c) _ _ (l .m) (l .inv .1 .0) (y .result) (y .ensures) (c .if1 .taken))
 
-below-last-below-requires-2 : (t : ℕ) → below-lts.Need-last-below-requires-2 (
-  last-below-reads.Asked,
-  last-below-reads.Learnt,
+below-first-below-requires-2 : (t : ℕ) → below-lts.Need-first-below-requires-2 (
+  first-below-reads.Asked,
+  first-below-reads.Learnt,
   wire-row-reads.Asked,
   wire-row-reads.Learnt,
-  previous-beside-reads.Asked,
-  previous-beside-reads.Learnt,
+  next-beside-reads.Asked,
+  next-beside-reads.Learnt,
   pin-list-reads.Asked,
   pin-list-reads.Learnt,
   hang-reads.Asked,
@@ -229,21 +231,21 @@ below-last-below-requires-2 : (t : ℕ) → below-lts.Need-last-below-requires-2
   seen-below t,
   seen.Post,
 ) (below-at t) below.Post below-Inv-loop below-μ-loop
-below-last-below-requires-2 t c κs =
+below-first-below-requires-2 t c κs =
     let a = c .before .before .before .before .before .before .before .before .before .before .before .before .before .before .before .before .before .before .args in
     let p = c .before .before .before .before .before .before .before .before .before .before .before .before .before .before .before .before .before .before .pre .1 in
     let l = c .before .before .loop in
-    let y = c .before .previous-beside in
+    let y = c .before .next-beside in
     let w = run (l .loads) (l .times) (l .words) in
     (omega (arith, p .0 .standing .few, sibling-more (a .rows .now) (a .due .now) (a .types .now) (a .count) (a .n) (a .links .now) (p .0) (a .p) (a .at) (p .1 .0 .0) (p .1 .1 .1 .0) (l .c) _ w (l .m) (l .inv .1 .0) (y .result) (y .ensures) (c .if1 .left)), p .0 .linked .long)
 
 below-add-pin-list : (t : ℕ) → below-lts.Need-add-pin-list (
-  last-below-reads.Asked,
-  last-below-reads.Learnt,
+  first-below-reads.Asked,
+  first-below-reads.Learnt,
   wire-row-reads.Asked,
   wire-row-reads.Learnt,
-  previous-beside-reads.Asked,
-  previous-beside-reads.Learnt,
+  next-beside-reads.Asked,
+  next-beside-reads.Learnt,
   pin-list-reads.Asked,
   pin-list-reads.Learnt,
   hang-reads.Asked,
@@ -254,12 +256,12 @@ below-add-pin-list : (t : ℕ) → below-lts.Need-add-pin-list (
 below-add-pin-list t c = omega (arith, c .before .before .before .before .before .before .before .loop .inv .1 .0 .made .fits)
 
 below-pin-list-requires : (t : ℕ) → below-lts.Need-pin-list-requires (
-  last-below-reads.Asked,
-  last-below-reads.Learnt,
+  first-below-reads.Asked,
+  first-below-reads.Learnt,
   wire-row-reads.Asked,
   wire-row-reads.Learnt,
-  previous-beside-reads.Asked,
-  previous-beside-reads.Learnt,
+  next-beside-reads.Asked,
+  next-beside-reads.Learnt,
   pin-list-reads.Asked,
   pin-list-reads.Learnt,
   hang-reads.Asked,
@@ -271,20 +273,20 @@ below-pin-list-requires t c κs =
     let a = c .before .before .before .before .before .before .before .before .before .before .before .before .before .before .before .before .before .before .before .before .before .before .before .args in
     let p = c .before .before .before .before .before .before .before .before .before .before .before .before .before .before .before .before .before .before .before .before .before .before .before .pre .1 in
     let l = c .before .before .before .before .before .before .before .loop in
-    let y = c .before .before .before .before .before .before .previous-beside in
+    let y = c .before .before .before .before .before .before .next-beside in
     let w = run (l .loads) (l .times) (l .words) in
     let long = room-run workRoom (l .inv .0) (omega arith) in
     let h = sibling-more (a .rows .now) (a .due .now) (a .types .now) (a .count) (a .n) (a .links .now) (p .0) (a .p) (a .at) (p .1 .0 .0) (p .1 .1 .1 .0) (l .c) _ w (l .m) (l .inv .1 .0) (y .result) (y .ensures) (c .before .before .before .before .before .if1 .left) in
-    let e : getD (a .links .now) (y .result) 0 ≡ a .n = sym (c .before .before .before .before .last-below2 .ensures) ∙ c .before .before .before .if2 .taken in
+    let e : getD (a .links .now) (y .result) 0 ≡ a .n = sym (c .before .before .before .before .first-below2 .ensures) ∙ c .before .before .before .if2 .taken in
     (p .0, ((h, e), (l .inv .0, sibling-room (a .rows .now) (a .due .now) (a .types .now) (a .count) (a .n) (a .links .now) (p .0) (a .p) (a .at) (p .1 .0 .0) (p .1 .1 .1 .0) (l .c) _ w (l .m) (l .inv .1 .0) (y .result) (y .ensures) (c .before .before .before .before .before .if1 .left) long)))
 
 below-hang-requires : (t : ℕ) → below-lts.Need-hang-requires (
-  last-below-reads.Asked,
-  last-below-reads.Learnt,
+  first-below-reads.Asked,
+  first-below-reads.Learnt,
   wire-row-reads.Asked,
   wire-row-reads.Learnt,
-  previous-beside-reads.Asked,
-  previous-beside-reads.Learnt,
+  next-beside-reads.Asked,
+  next-beside-reads.Learnt,
   pin-list-reads.Asked,
   pin-list-reads.Learnt,
   hang-reads.Asked,
@@ -296,7 +298,7 @@ below-hang-requires t c κs =
     let a = c .before .before .before .before .before .before .before .before .before .before .before .before .before .before .before .before .before .before .before .before .before .before .before .before .before .before .before .before .before .before .before .before .args in
     let p = c .before .before .before .before .before .before .before .before .before .before .before .before .before .before .before .before .before .before .before .before .before .before .before .before .before .before .before .before .before .before .before .before .pre .1 in
     let l = c .before .before .before .before .before .before .before .before .before .before .before .before .before .before .before .before .loop in
-    let y = c .before .before .before .before .before .before .before .before .before .before .before .before .before .before .before .previous-beside in
+    let y = c .before .before .before .before .before .before .before .before .before .before .before .before .before .before .before .next-beside in
     let o = c .before .before .before .before .before .before .before .before .pin-list in
     let w = run (l .loads) (l .times) (l .words) in
     let long = room-run workRoom (l .inv .0) (omega arith) in
@@ -305,12 +307,12 @@ below-hang-requires t c κs =
     (row-there (a .rows .now) (a .due .now) (a .types .now) (a .count) (a .n) (a .links .now) (p .0) (y .result) h, (r₂, (ohms-in (a .rows .now) (a .due .now) (a .types .now) (a .count) (a .n) (a .links .now) (p .0) (y .result) h, sibling-hang (a .rows .now) (a .due .now) (a .types .now) (a .count) (a .n) (a .links .now) (p .0) (a .p) (a .at) (p .1 .0 .0) (p .1 .1 .1 .0) (l .c) _ w (l .m) (l .inv .1 .0) (y .result) (y .ensures) (c .before .before .before .before .before .before .before .before .before .before .before .before .before .before .if1 .left) long (run (o .last .1 .1 .1 .1 .1 .0) (o .last .1 .1 .1 .1 .1 .1 .0) (o .last .1 .1 .1 .1 .1 .1 .1 .0)) (room-run workRoom r₂ (omega arith)) (o .result) (o .ensures))))
 
 below-loop-less : (t : ℕ) → below-lts.Need-loop-less (
-  last-below-reads.Asked,
-  last-below-reads.Learnt,
+  first-below-reads.Asked,
+  first-below-reads.Learnt,
   wire-row-reads.Asked,
   wire-row-reads.Learnt,
-  previous-beside-reads.Asked,
-  previous-beside-reads.Learnt,
+  next-beside-reads.Asked,
+  next-beside-reads.Learnt,
   pin-list-reads.Asked,
   pin-list-reads.Learnt,
   hang-reads.Asked,
@@ -322,16 +324,16 @@ below-loop-less t c =
     let a = c .before .before .before .before .before .before .before .before .before .before .before .before .before .before .before .before .before .before .before .before .before .before .before .before .before .before .before .before .before .before .before .before .before .before .before .before .before .before .args in
     let p = c .before .before .before .before .before .before .before .before .before .before .before .before .before .before .before .before .before .before .before .before .before .before .before .before .before .before .before .before .before .before .before .before .before .before .before .before .before .before .pre .1 in
     let l = c .before .before .before .before .before .before .before .before .before .before .before .before .before .before .before .before .before .before .before .before .before .before .loop in
-    let y = c .before .before .before .before .before .before .before .before .before .before .before .before .before .before .before .before .before .before .before .before .before .previous-beside in
-    sibling-earlier (a .rows .now) (a .due .now) (a .types .now) (a .count) (a .n) (a .links .now) (p .0) (a .p) (a .at) (p .1 .0 .0) (p .1 .1 .1 .0) (l .c) _ (run (l .loads) (l .times) (l .words)) (l .m) (l .inv .1 .0) (y .result) (y .ensures) (c .before .before .before .before .before .before .before .before .before .before .before .before .before .before .before .before .before .before .before .before .if1 .left)
+    let y = c .before .before .before .before .before .before .before .before .before .before .before .before .before .before .before .before .before .before .before .before .before .next-beside in
+    sibling-less (a .rows .now) (a .due .now) (a .types .now) (a .count) (a .n) (a .links .now) (p .0) (a .p) (a .at) (p .1 .0 .0) (p .1 .1 .1 .0) (l .c) _ (run (l .loads) (l .times) (l .words)) (l .m) (l .inv .1 .0) (y .result) (y .ensures) (c .before .before .before .before .before .before .before .before .before .before .before .before .before .before .before .before .before .before .before .before .if1 .left) (room-run workRoom (l .inv .0) (omega arith))
 
 below-loop-again : (t : ℕ) → below-lts.Need-loop-again (
-  last-below-reads.Asked,
-  last-below-reads.Learnt,
+  first-below-reads.Asked,
+  first-below-reads.Learnt,
   wire-row-reads.Asked,
   wire-row-reads.Learnt,
-  previous-beside-reads.Asked,
-  previous-beside-reads.Learnt,
+  next-beside-reads.Asked,
+  next-beside-reads.Learnt,
   pin-list-reads.Asked,
   pin-list-reads.Learnt,
   hang-reads.Asked,
@@ -343,7 +345,7 @@ below-loop-again t c =
     let a = c .before .before .before .before .before .before .before .before .before .before .before .before .before .before .before .before .before .before .before .before .before .before .before .before .before .before .before .before .before .before .before .before .before .before .before .before .before .before .args in
     let p = c .before .before .before .before .before .before .before .before .before .before .before .before .before .before .before .before .before .before .before .before .before .before .before .before .before .before .before .before .before .before .before .before .before .before .before .before .before .before .pre .1 in
     let l = c .before .before .before .before .before .before .before .before .before .before .before .before .before .before .before .before .before .before .before .before .before .before .loop in
-    let y = c .before .before .before .before .before .before .before .before .before .before .before .before .before .before .before .before .before .before .before .before .before .previous-beside in
+    let y = c .before .before .before .before .before .before .before .before .before .before .before .before .before .before .before .before .before .before .before .before .before .next-beside in
     let o = c .before .before .before .before .before .before .before .before .before .before .before .before .before .before .pin-list in
     let u = c .before .before .before .before .before .hang in
     let w = run (l .loads) (l .times) (l .words) in
@@ -354,12 +356,12 @@ below-loop-again t c =
     (room-kept _ _ _ r₂ (c .before .before .before .before .loads3 .given) (c .before .before .times3 .given) (c .before .words3 .given), (s, record { loads = c .before .before .before .before .loads3 .given ∙ c .before .before .before .before .before .before .before .before .before .before .before .before .before .loads2 .given ∙ k .loads; times = c .before .before .times3 .given ∙ c .before .before .before .before .before .before .before .before .before .before .before .times2 .given ∙ k .times; words = c .before .words3 .given ∙ c .before .before .before .before .before .before .before .before .before .before .words2 .given ∙ k .words }))
 
 below-add-seen : (t : ℕ) → below-lts.Need-add-seen (
-  last-below-reads.Asked,
-  last-below-reads.Learnt,
+  first-below-reads.Asked,
+  first-below-reads.Learnt,
   wire-row-reads.Asked,
   wire-row-reads.Learnt,
-  previous-beside-reads.Asked,
-  previous-beside-reads.Learnt,
+  next-beside-reads.Asked,
+  next-beside-reads.Learnt,
   pin-list-reads.Asked,
   pin-list-reads.Learnt,
   hang-reads.Asked,
@@ -370,12 +372,12 @@ below-add-seen : (t : ℕ) → below-lts.Need-add-seen (
 below-add-seen t c = omega (arith, c .before .before .before .before .before .before .before .loop .inv .1 .0 .made .fits)
 
 below-seen-requires : (t : ℕ) → below-lts.Need-seen-requires (
-  last-below-reads.Asked,
-  last-below-reads.Learnt,
+  first-below-reads.Asked,
+  first-below-reads.Learnt,
   wire-row-reads.Asked,
   wire-row-reads.Learnt,
-  previous-beside-reads.Asked,
-  previous-beside-reads.Learnt,
+  next-beside-reads.Asked,
+  next-beside-reads.Learnt,
   pin-list-reads.Asked,
   pin-list-reads.Learnt,
   hang-reads.Asked,
@@ -387,7 +389,7 @@ below-seen-requires t c κs =
     let a = c .before .before .before .before .before .before .before .before .before .before .before .before .before .before .before .before .before .before .before .before .before .before .before .args in
     let p = c .before .before .before .before .before .before .before .before .before .before .before .before .before .before .before .before .before .before .before .before .before .before .before .pre .1 in
     let l = c .before .before .before .before .before .before .before .loop in
-    let y = c .before .before .before .before .before .before .previous-beside in
+    let y = c .before .before .before .before .before .before .next-beside in
     let w = run (l .loads) (l .times) (l .words) in
     let long = room-run workRoom (l .inv .0) (omega arith) in
     let h = sibling-more (a .rows .now) (a .due .now) (a .types .now) (a .count) (a .n) (a .links .now) (p .0) (a .p) (a .at) (p .1 .0 .0) (p .1 .1 .1 .0) (l .c) _ w (l .m) (l .inv .1 .0) (y .result) (y .ensures) (c .before .before .before .before .before .if1 .left) in
@@ -395,12 +397,12 @@ below-seen-requires t c κs =
     (omega (arith, h, f, c .before .before .before .before .before .before .before .before .before .before .before .before .before .before .before .before .before .before .before .before .before .before .before .pre .0), (p .0, (h, (l .inv .0, sibling-room (a .rows .now) (a .due .now) (a .types .now) (a .count) (a .n) (a .links .now) (p .0) (a .p) (a .at) (p .1 .0 .0) (p .1 .1 .1 .0) (l .c) _ w (l .m) (l .inv .1 .0) (y .result) (y .ensures) (c .before .before .before .before .before .if1 .left) long))))
 
 below-hang-requires-2 : (t : ℕ) → below-lts.Need-hang-requires-2 (
-  last-below-reads.Asked,
-  last-below-reads.Learnt,
+  first-below-reads.Asked,
+  first-below-reads.Learnt,
   wire-row-reads.Asked,
   wire-row-reads.Learnt,
-  previous-beside-reads.Asked,
-  previous-beside-reads.Learnt,
+  next-beside-reads.Asked,
+  next-beside-reads.Learnt,
   pin-list-reads.Asked,
   pin-list-reads.Learnt,
   hang-reads.Asked,
@@ -412,7 +414,7 @@ below-hang-requires-2 t c κs =
     let a = c .before .before .before .before .before .before .before .before .before .before .before .before .before .before .before .before .before .before .before .before .before .before .before .before .before .before .before .before .before .before .before .before .args in
     let p = c .before .before .before .before .before .before .before .before .before .before .before .before .before .before .before .before .before .before .before .before .before .before .before .before .before .before .before .before .before .before .before .before .pre .1 in
     let l = c .before .before .before .before .before .before .before .before .before .before .before .before .before .before .before .before .loop in
-    let y = c .before .before .before .before .before .before .before .before .before .before .before .before .before .before .before .previous-beside in
+    let y = c .before .before .before .before .before .before .before .before .before .before .before .before .before .before .before .next-beside in
     let o = c .before .before .before .before .before .before .before .before .seen in
     let w = run (l .loads) (l .times) (l .words) in
     let long = room-run workRoom (l .inv .0) (omega arith) in
@@ -421,12 +423,12 @@ below-hang-requires-2 t c κs =
     (row-there (a .rows .now) (a .due .now) (a .types .now) (a .count) (a .n) (a .links .now) (p .0) (y .result) h, (r₂, (ohms-in (a .rows .now) (a .due .now) (a .types .now) (a .count) (a .n) (a .links .now) (p .0) (y .result) h, sibling-hang (a .rows .now) (a .due .now) (a .types .now) (a .count) (a .n) (a .links .now) (p .0) (a .p) (a .at) (p .1 .0 .0) (p .1 .1 .1 .0) (l .c) _ w (l .m) (l .inv .1 .0) (y .result) (y .ensures) (c .before .before .before .before .before .before .before .before .before .before .before .before .before .before .if1 .left) long (run (o .last .1 .1 .1 .1 .1 .0) (o .last .1 .1 .1 .1 .1 .1 .0) (o .last .1 .1 .1 .1 .1 .1 .1 .0)) (room-run workRoom r₂ (omega arith)) (o .result) (o .ensures))))
 
 below-loop-less-2 : (t : ℕ) → below-lts.Need-loop-less-2 (
-  last-below-reads.Asked,
-  last-below-reads.Learnt,
+  first-below-reads.Asked,
+  first-below-reads.Learnt,
   wire-row-reads.Asked,
   wire-row-reads.Learnt,
-  previous-beside-reads.Asked,
-  previous-beside-reads.Learnt,
+  next-beside-reads.Asked,
+  next-beside-reads.Learnt,
   pin-list-reads.Asked,
   pin-list-reads.Learnt,
   hang-reads.Asked,
@@ -438,16 +440,16 @@ below-loop-less-2 t c =
     let a = c .before .before .before .before .before .before .before .before .before .before .before .before .before .before .before .before .before .before .before .before .before .before .before .before .before .before .before .before .before .before .before .before .before .before .before .before .before .before .args in
     let p = c .before .before .before .before .before .before .before .before .before .before .before .before .before .before .before .before .before .before .before .before .before .before .before .before .before .before .before .before .before .before .before .before .before .before .before .before .before .before .pre .1 in
     let l = c .before .before .before .before .before .before .before .before .before .before .before .before .before .before .before .before .before .before .before .before .before .before .loop in
-    let y = c .before .before .before .before .before .before .before .before .before .before .before .before .before .before .before .before .before .before .before .before .before .previous-beside in
-    sibling-earlier (a .rows .now) (a .due .now) (a .types .now) (a .count) (a .n) (a .links .now) (p .0) (a .p) (a .at) (p .1 .0 .0) (p .1 .1 .1 .0) (l .c) _ (run (l .loads) (l .times) (l .words)) (l .m) (l .inv .1 .0) (y .result) (y .ensures) (c .before .before .before .before .before .before .before .before .before .before .before .before .before .before .before .before .before .before .before .before .if1 .left)
+    let y = c .before .before .before .before .before .before .before .before .before .before .before .before .before .before .before .before .before .before .before .before .before .next-beside in
+    sibling-less (a .rows .now) (a .due .now) (a .types .now) (a .count) (a .n) (a .links .now) (p .0) (a .p) (a .at) (p .1 .0 .0) (p .1 .1 .1 .0) (l .c) _ (run (l .loads) (l .times) (l .words)) (l .m) (l .inv .1 .0) (y .result) (y .ensures) (c .before .before .before .before .before .before .before .before .before .before .before .before .before .before .before .before .before .before .before .before .if1 .left) (room-run workRoom (l .inv .0) (omega arith))
 
 below-loop-again-2 : (t : ℕ) → below-lts.Need-loop-again-2 (
-  last-below-reads.Asked,
-  last-below-reads.Learnt,
+  first-below-reads.Asked,
+  first-below-reads.Learnt,
   wire-row-reads.Asked,
   wire-row-reads.Learnt,
-  previous-beside-reads.Asked,
-  previous-beside-reads.Learnt,
+  next-beside-reads.Asked,
+  next-beside-reads.Learnt,
   pin-list-reads.Asked,
   pin-list-reads.Learnt,
   hang-reads.Asked,
@@ -459,7 +461,7 @@ below-loop-again-2 t c =
     let a = c .before .before .before .before .before .before .before .before .before .before .before .before .before .before .before .before .before .before .before .before .before .before .before .before .before .before .before .before .before .before .before .before .before .before .before .before .before .before .args in
     let p = c .before .before .before .before .before .before .before .before .before .before .before .before .before .before .before .before .before .before .before .before .before .before .before .before .before .before .before .before .before .before .before .before .before .before .before .before .before .before .pre .1 in
     let l = c .before .before .before .before .before .before .before .before .before .before .before .before .before .before .before .before .before .before .before .before .before .before .loop in
-    let y = c .before .before .before .before .before .before .before .before .before .before .before .before .before .before .before .before .before .before .before .before .before .previous-beside in
+    let y = c .before .before .before .before .before .before .before .before .before .before .before .before .before .before .before .before .before .before .before .before .before .next-beside in
     let o = c .before .before .before .before .before .before .before .before .before .before .before .before .before .before .seen in
     let u = c .before .before .before .before .before .hang2 in
     let w = run (l .loads) (l .times) (l .words) in
@@ -672,7 +674,7 @@ seen-below-requires t c κs =
     let b = above (a .rows .now) (a .due .now) (a .types .now) (a .count) (a .n) (a .links .now) (p .0) (a .row) (a .at) (p .1 .0) (p .1 .1 .1) (l .r) (i .0) (x .result) (x .ensures) (c .before .before .before .before .before .if1 .left) in
     let f = way-after (a .rows .now) (a .due .now) (a .types .now) (a .count) (a .n) (a .links .now) (p .0) (a .row) (a .at) (p .1 .0) (p .1 .1 .1) (x .result .parent) (b .way) in
     let h = way-inside (a .rows .now) (a .due .now) (a .types .now) (a .count) (a .n) (a .links .now) (p .0) (a .row) (a .at) (p .1 .0) (p .1 .1 .1) (l .r) (i .0) in
-    (omega (arith, f, c .before .before .before .before .before .before .before .before .before .before .before .before .before .before .before .before .before .before .before .before .before .before .before .before .before .before .before .before .before .before .before .pre .0), (p .0, ((b .inside, rw (b .last) h), (room-kept _ _ _ (l .inv .0) (c .before .before .before .before .before .before .before .before .before .before .loads2 .given) (c .before .before .before .before .before .before .before .before .times2 .given) (c .before .before .before .before .before .before .before .words2 .given), (way-room (a .rows .now) (a .due .now) (a .types .now) (a .count) (a .n) (a .links .now) (p .0) (a .row) (a .at) (p .1 .0) (p .1 .1 .1) (x .result .parent) (b .way), rw (b .last) (made-here m))))))
+    (omega (arith, f, c .before .before .before .before .before .before .before .before .before .before .before .before .before .before .before .before .before .before .before .before .before .before .before .before .before .before .before .before .before .before .before .pre .0), (p .0, ((b .inside, rw (b .first) h), (room-kept _ _ _ (l .inv .0) (c .before .before .before .before .before .before .before .before .before .before .loads2 .given) (c .before .before .before .before .before .before .before .before .times2 .given) (c .before .before .before .before .before .before .before .words2 .given), (way-room (a .rows .now) (a .due .now) (a .types .now) (a .count) (a .n) (a .links .now) (p .0) (a .row) (a .at) (p .1 .0) (p .1 .1 .1) (x .result .parent) (b .way), rw (b .first) (made-here m))))))
 
 seen-loop-less : (t : ℕ) → seen-lts.Need-loop-less (
   deepest-reads.Asked,
@@ -692,7 +694,7 @@ seen-loop-less t c =
     let l = c .before .before .before .before .before .before .before .before .before .before .before .before .before .before .before .before .before .before .before .before .before .loop in
     let x = c .before .before .before .before .before .before .before .before .before .before .row-at in
     let b = above (a .rows .now) (a .due .now) (a .types .now) (a .count) (a .n) (a .links .now) (p .0) (a .row) (a .at) (p .1 .0) (p .1 .1 .1) (l .r) (l .inv .1 .0) (x .result) (x .ensures) (c .before .before .before .before .before .before .before .before .before .before .before .if1 .left) in
-    omega (arith, rising (a .rows .now) (a .due .now) (a .types .now) (a .count) (a .n) (a .links .now) (p .0) (x .result .parent) (b .inside), b .last)
+    omega (arith, rising (a .rows .now) (a .due .now) (a .types .now) (a .count) (a .n) (a .links .now) (p .0) (x .result .parent) (b .inside), b .first)
 
 seen-loop-again : (t : ℕ) → seen-lts.Need-loop-again (
   deepest-reads.Asked,
@@ -720,18 +722,18 @@ seen-loop-again t c =
     let h = way-inside (a .rows .now) (a .due .now) (a .types .now) (a .count) (a .n) (a .links .now) (p .0) (a .row) (a .at) (p .1 .0) (p .1 .1 .1) (l .r) (i .0) in
     let r₂ : Room (v .last .1 .1 .1 .1 .1 .0) (v .last .1 .1 .1 .1 .1 .1 .0) (v .last .1 .1 .1 .1 .1 .1 .1 .0) = room-kept _ _ _ (l .inv .0) (c .before .before .before .before .before .before .before .before .before .before .before .before .before .before .before .before .loads2 .given) (c .before .before .before .before .before .before .before .before .before .before .before .before .before .before .times2 .given) (c .before .before .before .before .before .before .before .before .before .before .before .before .before .words2 .given) in
     let r₃ : Room (u .last .1 .1 .1 .1 .1 .0) (u .last .1 .1 .1 .1 .1 .1 .0) (u .last .1 .1 .1 .1 .1 .1 .1 .0) = room-kept _ _ _ r₂ (c .before .before .before .before .loads3 .given) (c .before .before .times3 .given) (c .before .words3 .given) in
-    let s = under-made (a .rows .now) (a .due .now) (a .types .now) (a .count) (a .n) (a .links .now) (p .0) (a .row) (a .at) (p .1 .0) (p .1 .1 .1) (x .result .parent) (b .way) (rw (b .last) h) _ w₂ (run (u .last .1 .1 .1 .1 .1 .0) (u .last .1 .1 .1 .1 .1 .1 .0) (u .last .1 .1 .1 .1 .1 .1 .1 .0)) (room-run workRoom r₃ (omega arith)) (u .result) (m .before) (u .ensures) in
+    let s = under-made (a .rows .now) (a .due .now) (a .types .now) (a .count) (a .n) (a .links .now) (p .0) (a .row) (a .at) (p .1 .0) (p .1 .1 .1) (x .result .parent) (b .way) (rw (b .first) h) _ w₂ (run (u .last .1 .1 .1 .1 .1 .0) (u .last .1 .1 .1 .1 .1 .1 .0) (u .last .1 .1 .1 .1 .1 .1 .1 .0)) (room-run workRoom r₃ (omega arith)) (u .result) (m .before) (u .ensures) in
     let k = i .1 .1 in
     (r₃, (b .way, (s, record { loads = c .before .before .before .before .loads3 .given ∙ c .before .before .before .before .before .before .before .before .before .before .before .before .before .before .before .before .loads2 .given ∙ k .loads; times = c .before .before .times3 .given ∙ c .before .before .before .before .before .before .before .before .before .before .before .before .before .before .times2 .given ∙ k .times; words = c .before .words3 .given ∙ c .before .before .before .before .before .before .before .before .before .before .before .before .before .words2 .given ∙ k .words })))
 
 pub +below+seen-spec : {M : Type 1} → statement M
 +below+seen-spec = close μ-below μ-seen (λ t. below-lts.spec (
-  last-below-reads.Asked,
-  last-below-reads.Learnt,
+  first-below-reads.Asked,
+  first-below-reads.Learnt,
   wire-row-reads.Asked,
   wire-row-reads.Learnt,
-  previous-beside-reads.Asked,
-  previous-beside-reads.Learnt,
+  next-beside-reads.Asked,
+  next-beside-reads.Learnt,
   pin-list-reads.Asked,
   pin-list-reads.Learnt,
   hang-reads.Asked,
@@ -743,15 +745,15 @@ pub +below+seen-spec : {M : Type 1} → statement M
     below.Post
     below-Inv-loop
     below-μ-loop
-    (below-last-below-requires t)
+    (below-first-below-requires t)
     (below-wire-row-requires t)
     (below-loop-holds t)
-    (below-previous-beside-requires t)
+    (below-next-beside-requires t)
     (below-same-length t)
     (below-same-length-2 t)
     (below-same-length-3 t)
     (below-returns t)
-    (below-last-below-requires-2 t)
+    (below-first-below-requires-2 t)
     (below-add-pin-list t)
     (below-pin-list-requires t)
     (below-hang-requires t)

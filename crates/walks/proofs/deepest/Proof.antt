@@ -14,14 +14,14 @@ Inv-loop links n row r₀ c₀ r c = (r < n) × (Spine links n row r × (c ≡ g
 abbrev μ-loop : tie.MeasureT-loop
 μ-loop links n row r₀ c₀ r c = n - r
 
-last-below-requires : tie.Need-last-below-requires Inv-loop μ-loop
-last-below-requires c κs = (omega (arith, c .before .pre .0), c .before .pre .1 .0)
+first-below-requires : tie.Need-first-below-requires Inv-loop μ-loop
+first-below-requires c κs = (omega (arith, c .before .pre .0), c .before .pre .1 .0)
 
 loop-holds : tie.Need-loop-holds Inv-loop μ-loop
-loop-holds c = (c .before .before .pre .0 .0, (here refl, c .last-below .ensures))
+loop-holds c = (c .before .before .pre .0 .0, (here refl, c .first-below .ensures))
 
-last-below-requires-2 : tie.Need-last-below-requires-2 Inv-loop μ-loop
-last-below-requires-2 c κs =
+first-below-requires-2 : tie.Need-first-below-requires-2 Inv-loop μ-loop
+first-below-requires-2 c κs =
     let l = c .before .loop in
     (omega (arith, c .before .before .before .before .pre .0, c .before .before .before .before .pre .1 .1 (l .r) (l .inv .0), l .inv .1 .1, c .loop-test .taken), c .before .before .before .before .pre .1 .0)
 
@@ -34,7 +34,7 @@ loop-again : tie.Need-loop-again Inv-loop μ-loop
 loop-again c =
     let l = c .before .before .loop in
     let h : l .c < c .before .before .before .before .before .args .n = omega (arith, c .before .before .before .before .before .pre .1 .1 (l .r) (l .inv .0), l .inv .1 .1, c .before .loop-test .taken) in
-    (h, (down (l .r) (l .inv .0) (l .inv .1 .0) (sym (l .inv .1 .1)) h, c .last-below2 .ensures))
+    (h, (down (l .r) (l .inv .0) (l .inv .1 .0) (sym (l .inv .1 .1)) h, c .first-below2 .ensures))
 
 returns : tie.Need-returns Inv-loop μ-loop
 returns c =
@@ -47,9 +47,9 @@ deepest-spec =
     (tie.spec
     Inv-loop
     μ-loop
-    last-below-requires
+    first-below-requires
     loop-holds
-    last-below-requires-2
+    first-below-requires-2
     loop-less
     loop-again
     returns)

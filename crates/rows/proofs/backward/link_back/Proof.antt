@@ -8,7 +8,7 @@ use lib.ListN.{getD, length-set}
 use Rattle.laws.specs.Tabled.{rowsFrom, rows-length}
 use Rattle.laws.specs.Walk.{noRow, sitesBefore-zero}
 use Rattle.rows.specs.Links.{row-is, parent-early, count-next, sites-few}
-use Rattle.rows.specs.Backward.{Backing, backing-start, backing-step, backing-end}
+use Rattle.rows.specs.Backward.{Backing, backing-start, backing-step, backing-end, slot-low}
 use Rattle.rows.proofs.backward.link_back.Statement.{statement}
 use Rattle.rows.proofs.backward.link_back.Tie as tie
 
@@ -52,47 +52,61 @@ row-at-requires-2 c κs =
     let p = c .before .before .before .before .before .before .before .pre .0 in
     omega (arith, p .few, p .rows-long, p .due-long, c .loop-test .taken)
 
-cast-put-row : tie.Need-cast-put-row Inv-loop μ-loop
-cast-put-row c = search needs
+cast-slot : tie.Need-cast-slot Inv-loop μ-loop
+cast-slot c = search needs
 
-put-row-requires : tie.Need-put-row-requires Inv-loop μ-loop
-put-row-requires c κs =
+slot-requires : tie.Need-slot-requires Inv-loop μ-loop
+slot-requires c κs =
     let b = c .before .before .before .before .before .before .before .before .before .before in
     let a = b .args in
     let l = c .before .before .before .before .loop in
     let h = c .before .before .before .loop-test .taken in
     let x = c .before .before .row-at2 in
     let f = parent-early (a .rows .now) (a .due .now) (a .n) (l .i) (x .result) (b .pre .1 .0) (l .inv .0) h (x .ensures) in
+    ((f, (h, b .pre .0 .few)), (b .pre .0 .rows-long, l .inv .1 .1 .long))
+
+put-row-requires : tie.Need-put-row-requires Inv-loop μ-loop
+put-row-requires c κs =
+    let b = c .before .before .before .before .before .before .before .before .before .before .before .before in
+    let a = b .args in
+    let l = c .before .before .before .before .before .before .loop in
+    let h = c .before .before .before .before .before .loop-test .taken in
+    let x = c .before .before .before .before .row-at2 in
+    let q = c .before .slot in
+    let e = rows-length (a .rows .now) (a .due .now) 0 (a .n) in
+    let f = parent-early (a .rows .now) (a .due .now) (a .n) (l .i) (x .result) (b .pre .1 .0) (l .inv .0) h (x .ensures) in
     let k = sites-few (rowsFrom (a .rows .now) (a .due .now) 0 (a .n)) (l .i) (l .inv .1 .1 .inside) in
-    ((f, (h, b .pre .0 .few)), (omega (arith, k, l .inv .1 .1 .count, b .pre .0 .few), l .inv .1 .1 .long))
+    let s = slot-low (rowsFrom (a .rows .now) (a .due .now) 0 (a .n)) _ (l .i) (l .k) (x .result .parent) (q .result) (l .inv .1 .1) (rw e (b .pre .0 .few)) f (rw e (q .ensures)) in
+    ((s, (h, b .pre .0 .few)), (omega (arith, k, l .inv .1 .1 .count, b .pre .0 .few), l .inv .1 .1 .long))
 
 next-site-requires-2 : tie.Need-next-site-requires-2 Inv-loop μ-loop
 next-site-requires-2 c κs =
-    let b = c .before .before .before .before .before .before .before .before .before .before .before .before .before in
+    let b = c .before .before .before .before .before .before .before .before .before .before .before .before .before .before .before in
     let a = b .args in
-    let l = c .before .before .before .before .before .before .before .loop in
+    let l = c .before .before .before .before .before .before .before .before .before .loop in
     omega (arith, sites-few (rowsFrom (a .rows .now) (a .due .now) 0 (a .n)) (l .i) (l .inv .1 .1 .inside), l .inv .1 .1 .count, b .pre .0 .few)
 
 add-i : tie.Need-add-i Inv-loop μ-loop
-add-i c = omega (arith, c .before .before .before .before .before .before .before .loop-test .taken, c .before .before .before .before .before .before .before .before .before .before .before .before .before .before .pre .0 .few)
+add-i c = omega (arith, c .before .before .before .before .before .before .before .before .before .loop-test .taken, c .before .before .before .before .before .before .before .before .before .before .before .before .before .before .before .before .pre .0 .few)
 
 loop-less : tie.Need-loop-less Inv-loop μ-loop
-loop-less c = omega (arith, c .before .before .before .before .before .before .before .loop-test .taken)
+loop-less c = omega (arith, c .before .before .before .before .before .before .before .before .before .loop-test .taken)
 
 loop-again : tie.Need-loop-again Inv-loop μ-loop
 loop-again c =
-    let b = c .before .before .before .before .before .before .before .before .before .before .before .before .before .before in
+    let b = c .before .before .before .before .before .before .before .before .before .before .before .before .before .before .before .before in
     let a = b .args in
     let p = b .pre in
-    let l = c .before .before .before .before .before .before .before .before .loop in
-    let h = c .before .before .before .before .before .before .before .loop-test .taken in
+    let l = c .before .before .before .before .before .before .before .before .before .before .loop in
+    let h = c .before .before .before .before .before .before .before .before .before .loop-test .taken in
     let e = rows-length (a .rows .now) (a .due .now) 0 (a .n) in
-    let x = c .before .before .before .before .before .before .row-at2 in
-    let q : getD (rowsFrom (a .rows .now) (a .due .now) 0 (a .n)) (l .i) noRow ≡ x .result = row-is (a .rows .now) (a .due .now) (a .n) (l .i) (x .result) h (x .ensures) in (
+    let x = c .before .before .before .before .before .before .before .before .row-at2 in
+    let q = c .before .before .before .before .before .slot in
+    let r : getD (rowsFrom (a .rows .now) (a .due .now) 0 (a .n)) (l .i) noRow ≡ x .result = row-is (a .rows .now) (a .due .now) (a .n) (l .i) (x .result) h (x .ensures) in (
       omega arith,
       (
         omega arith,
-        backing-step _ _ (l .i) (l .k) (x .result .parent) (p .1 .0) (l .inv .1 .1) (l .inv .0) (rw e (p .0 .few)) (rw e h) (rw q) _ _ (rw (e, c .before .before .before .put-row .ensures))
+        backing-step _ _ (l .i) (l .k) (x .result .parent) (q .result) (p .1 .0) (l .inv .1 .1) (l .inv .0) (rw e (p .0 .few)) (rw e h) (rw r) _ _ (rw e (q .ensures)) (rw (e, c .before .before .before .put-row .ensures))
             (count-next (a .rows .now) (a .due .now) (a .n) (l .i) (l .k) (x .result) _ h (l .inv .1 .1 .count) (x .ensures) (c .next-site2 .ensures)),
       ),
     )
@@ -119,7 +133,8 @@ link-back-spec =
     next-site-requires
     loop-holds
     row-at-requires-2
-    cast-put-row
+    cast-slot
+    slot-requires
     put-row-requires
     next-site-requires-2
     add-i

@@ -5,71 +5,54 @@ use borrow.Author.Needs.{needs}
 use Rattle.rows.proofs.backward.put_row.Statement.{statement}
 use Rattle.rows.proofs.backward.put_row.Tie as tie
 
--- src/backward.rt:24:18
 mul-behind : tie.Need-mul-behind
 mul-behind c = search needs
 
--- src/backward.rt:24:18
 slice-read-behind : tie.Need-slice-read-behind
 slice-read-behind c = search needs
 
--- src/backward.rt:25:11
 add-links : tie.Need-add-links
 add-links c = search needs
 
--- src/backward.rt:25:5
 mul-links : tie.Need-mul-links
 mul-links c = search needs
 
--- src/backward.rt:25:5
 slice-write-links : tie.Need-slice-write-links
 slice-write-links c = search needs
 
--- src/backward.rt:26:16
 place-requires : tie.Need-place-requires
 place-requires c κs = search needs
 
--- src/backward.rt:26:5
 mul-links-2 : tie.Need-mul-links-2
 mul-links-2 c = search needs
 
--- src/backward.rt:26:5
 slice-write-links-2 : tie.Need-slice-write-links-2
 slice-write-links-2 c = simp length-set (omega (arith, c .before .before .before .pre))
 
--- src/backward.rt:27:16
 place-requires-2 : tie.Need-place-requires-2
 place-requires-2 c κs = search needs
 
--- src/backward.rt:27:5
 mul-links-3 : tie.Need-mul-links-3
 mul-links-3 c = search needs
 
--- src/backward.rt:27:5
 slice-write-links-3 : tie.Need-slice-write-links-3
 slice-write-links-3 c = simp (length-set, length-set) (omega (arith, c .before .before .before .before .pre))
 
--- src/backward.rt:28:27
 place-requires-3 : tie.Need-place-requires-3
 place-requires-3 c κs = search needs
 
--- src/backward.rt:28:11
 add-links-2 : tie.Need-add-links-2
 add-links-2 c = search needs
 
--- src/backward.rt:28:5
 mul-links-4 : tie.Need-mul-links-4
 mul-links-4 c = search needs
 
--- src/backward.rt:28:5
 slice-write-links-4 : tie.Need-slice-write-links-4
 slice-write-links-4 c = simp (length-set, length-set, length-set) (omega (arith, c .before .before .before .before .before .pre))
 
--- src/backward.rt:19:1
 same-length : tie.Need-same-length
 same-length c = search needs
 
--- src/backward.rt:19:1
 returns : tie.Need-returns
 returns c = rw (c .before .before .place .ensures, c .before .place2 .ensures, c .place3 .ensures)
 
