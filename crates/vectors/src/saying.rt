@@ -42,24 +42,11 @@ pub fn sum(n: u64) {
     }
 }
 
-fn refused_at(no: u64, place: u32) {
-    say(b" refused");
-    number(no);
-    number(place as u64);
-}
-
-// The paper's number of each refusal, and its place.
+// The paper's number of a refusal, and its place.
 pub fn refused(r: Refusal) {
-    match r {
-        Refusal::Form(line) => refused_at(1, line),
-        Refusal::Range(line) => refused_at(2, line),
-        Refusal::Room(line) => refused_at(3, line),
-        Refusal::Parent(line) => refused_at(4, line),
-        Refusal::Childless(line) => refused_at(5, line),
-        Refusal::Mark(line) => refused_at(6, line),
-        Refusal::Short => refused_at(7, 0),
-        Refusal::NoRow => refused_at(8, 0),
-    }
+    say(b" refused");
+    number(refusals::number_of(r) as u64);
+    number(refusals::place_of(r) as u64);
 }
 
 pub fn slack_and_load(slack: Femtosecond, load: Femtofarad) {
