@@ -709,6 +709,230 @@ def plan_records(mir):
     plain(w, "", "", ENUM_USES + "use Rattle.rules.specs.Promises.{PlanPromise}\nuse Rattle.laws.specs.Checked.{tablesOf as netOf, countsOf}\nuse Rattle.records.specs.Entries.{records}\nuse Rattle.records.specs.Planning.{accepted-is, refused-is, verdict-plans, verdict-four, plan-done, plan-refused}\n", c.out())
 
 
+TYPES["Listing"] = Type("Listing", "Listing", "Z", "EL")
+LISTS = [
+    Callee("judge-list", MY + "listing.judge_list", [("types", "shr u32"), ("rows", "shr u32"), ("due", "shr i64"), ("count", "usize"), ("n", "usize"), ("row", "usize"), ("lls", "usize"), ("lts", "usize"), ("room", "usize")], "Checking", "ListVerdict types rows due count n row lls lts room r", None, TYPES),
+    Callee("make-if", MY + "listing.make_if", [("run", "mut Cand"), ("rows", "shr u32"), ("due", "shr i64"), ("types", "shr u32"), ("count", "usize"), ("n", "usize"), ("row", "usize"), ("c", "Checking")], "usize", "SeenIf rows due types count n row run zs c r", "MakesIf rows due types count n row run c", TYPES),
+    Callee("look-pass", MY + "listing.look_pass", [("i", "usize")], "Pass", "r ≡ lookPass i", None, TYPES),
+    Callee("put-load", MY + "listing.put_load", [("lls", "mut u32"), ("i", "usize"), ("p", "Pass")], "unit", "zs ≡ set lls i (p .held .load .0)", "i < length lls", TYPES),
+    Callee("put-time", MY + "listing.put_time", [("lts", "mut i64"), ("i", "usize"), ("p", "Pass")], "unit", "zs ≡ set lts i (p .held .time .0)", "i < length lts", TYPES),
+    Callee("clear-of", MY + "listing.clear_of", [("c", "Checking")], "Pass", "r ≡ clearOf c", None, TYPES),
+    Callee("answer-of", MY + "listing.answer_of", [("c", "Checking"), ("len", "usize")], "Listing", "r ≡ answerOf c len", "len ≤ listRoom", TYPES),
+]
+for c_ in LISTS:
+    TABLE[c_.name] = c_
+    CALLED[c_.name] = "records·listing·" + c_.name
+    AT["records::listing::" + c_.name.replace("-", "_")] = c_
+LIST_USES = """use Rattle.rules.specs.declared.Listing.{Listing}
+use Rattle.rules.proofs.Listing as Z
+use Rattle.rules.proofs.Listing.Laws as Z′
+"""
+
+
+def make_if(mir):
+    pre = "MakesIf rows due types count n row run c"
+    w = Walk(mir, "records::listing::make_if", MY + "listing.make_if", LISTS[1].params, "usize", TYPES, AT, pre, "SeenIf rows due types count n row run run′ c r", fields=FIELDS)
+    body = flat(w.fn[5])
+    begin_walk(w)
+    c = w.c
+    w.run(body[0:2], [])
+    cond = w.place(body[2][1][1])[0]
+    E = f"(E {' '.join(w.L)})"
+    c.say(f"first ! $ branches ! (load ! (from ! (stop !)) (look ! {w.pos(cond)} refl))")
+    save = (list(c.items), dict(w.state), dict(w.lists))
+    close = w.close
+    w.close = 0
+    base = "(t-rows .now) (t-due .now) (t-types .now) count n row ys-run"
+    c.say("(λ yes.")
+    yes = "(accepted-is c r₁ (is₁ .1 .1) yes)"
+    w.run(flat(body[2][2]), [f"makes-if {base} c pre {yes}"], lastOf=True)
+    c.say(f"exec ! C Λ {E} M′.t-4 (atRet {E} Post) $")
+    w.run(body[3:4], [])
+    w.leave(f"exits r₂ zs₂ (is₂ .1 .0) len₂ (seen-if {base} zs₂ c r₂ {yes} (is₂ .1 .1))")
+    c.say(")" * w.close + ")")
+    c.items, w.state, w.lists = list(save[0]), dict(save[1]), dict(save[2])
+    c.say(f"(λ no. skips ! $ exec ! C Λ {E} M′.t-4 (atRet {E} Post) $")
+    w.run(body[3:4], [])
+    w.leave(f"exits 0 ys-run (lit< tt) refl (seen-not {base} c (refused-is c r₁ (is₁ .1 .1) no))")
+    c.say(")" + ")" * close)
+    plain(w, "listing", pre, ENUM_USES + "use Rattle.records.specs.Listings.{MakesIf, SeenIf, makes-if, seen-if, seen-not}\nuse Rattle.records.specs.Planning.{accepted-is, refused-is}\n", c.out())
+
+
+def list_records(mir):
+    params = [("types", "shr u32"), ("rows", "shr u32"), ("due", "shr i64"), ("tc", "usize"), ("rc", "usize"), ("row", "usize"), ("lls", "mut u32"), ("lts", "mut i64"), ("work", "mut Cand")]
+    w = Walk(mir, "records::listing::list_records", MY + "listing.list_records", params, "Listing", TYPES, AT, "",
+             "ListPromise records (netOf types rows due) (countsOf tc rc) row (lentOf lls lts) work r (lentOf lls′ lts′) work′", fields=FIELDS)
+    body = flat(w.fn[5])
+    k = [x for x, s in enumerate(body) if s[0] == "block"][0]
+    loop = flat(body[k][1][1])
+    from walk import Bool as B, Ref
+    front = [x for p in w.muts for x in (f"S {p}", f"K {p}")] + ["true"] + [x for p in w.shrs for x in (f"K {p}", f"H {p}")]
+    # the entry, up to the loop
+    begin_walk(w)
+    c = w.c
+    judged = "(t-types .now) (t-rows .now) (t-due .now) tc rc row ys-lls ys-lts ys-work"
+    w.run(body[:k], [f"list-makes {judged} r₁ (is₁ .1 .1)"])
+    verdict, len_, at = w.place(body[3][3])[0], w.place(body[6][3])[0], w.place(body[7][1])[0]
+    stay = list(range(1, 10)) + [verdict, len_, at]
+    for j in range(w.n - 1, -1, -1):
+        if w.state.get(j) is not None and j not in stay:
+            c.say(f"forget ! {w.pos(j)} refl $")
+    c.move(*front)
+    LS = " ".join(w.L)
+    known = lambda: "".join(f" known-{n}" for n in w.used)
+    rooms = " ".join(n for n, _ in w.rooms())
+    entry, entry_close = c.text, w.close
+    # the turn
+    names_ = f"{judged} verdict judged v same len seen"
+    c = Ctx(front + [x for j in range(w.n - 1, -1, -1) for x in (f"L{j}", f"D{j}")])
+    st = {1: Ref("types"), 2: Ref("rows"), 3: Ref("due"), 4: Num("tc", "tc-fits"), 5: Num("rc", "rc-fits"), 6: Num("row", "row-fits"), 7: Ref("lls"), 8: Ref("lts"), 9: Ref("work"),
+          verdict: Val(TYPES["Checking"], "verdict", "verdict-is"), len_: Num("len", "len-fits"), at: Num("(s .0)", "inv .fits")}
+    w.start(c, dict(st))
+    w.lists = {"lls": ("s .1 .0", "inv .long-lls"), "lts": ("s .1 .1", "inv .long-lts"), "work": ("v", "same")}
+    w.close = 0
+    w.calls = 0
+    test = w.place(loop[0][1])[0]
+    w.assign(loop[0], [])
+    t0 = c.out()
+    c.text = []
+    save = (list(c.items), dict(w.state))
+    flip = f"rewrite ! {w.pos(test)} (λ (y : Bool). ‵ (fat fullShare tyBool {w.L[test]} 0 (vbool y))) t refl $"
+    c.say(flip + f" stays ! (load ! (from ! (stop !)) (look ! {w.pos(test)} refl)) $")
+    look = f"{names_} (s .0) more r₁ (is₁ .1 .1)"
+    facts = [f"look-safe {look}", "inv .long-lls ◁ lls", "inv .long-lts ◁ lts", "next"]
+    facts[1] = f"subst (λ (k : ℕ). s .0 < k) (sym (inv .long-lls)) (load-place {names_} (s .0) more)"
+    facts[2] = f"subst (λ (k : ℕ). s .0 < k) (sym (inv .long-lts)) (time-place {names_} (s .0) more)"
+    facts[3] = "on"
+    w.run(loop[2:], facts, lastOf=True)
+    for j in range(w.n - 1, -1, -1):
+        if w.state.get(j) is not None and j not in stay:
+            c.say(f"forget ! {w.pos(j)} refl $")
+    c.move(*front)
+    c.say(f"rewrite ! {c.items.index('S work')} (λ (z : List Cand). ‵ ({w.mine('work', 'z')})) (looked-same {look} r₂ zs₂ (is₂ .1 .1)) refl $")
+    lo = f"looked-load {look} r₂ zs₂ (is₂ .1 .1)"
+    ti = f"looked-time {look} r₂ zs₂ (is₂ .1 .1)"
+    c.say(f"use0 W (raw (fact 𝓤 (Inv (s .0 + 1, (zs₃, zs₄))))) (factI 𝓤 _ (emp 𝓤) (record {{ fits = on; upto = omega arith; long-lls = len₃; long-lts = len₄; "
+          f"loads = is₃ .1 .1 ∙ ap (λ (k : ℕ). set (s .1 .0) (s .0) k) ({lo}) ∙ ap (λ (z : List ℕ). set z (s .0) (getD (loadsOf v) (s .0) 0)) (inv .loads) ∙ copied-more (s .0) (loadsOf v) ys-lls 0 (rw length-map (place {names_} (s .0) more)) (load-place {names_} (s .0) more); "
+          f"times = is₄ .1 .1 ∙ ap (λ (k : ℤ). set (s .1 .1) (s .0) k) ({ti}) ∙ ap (λ (z : List ℤ). set z (s .0) (getD (timesOf v) (s .0) (pos 0))) (inv .times) ∙ copied-more (s .0) (timesOf v) ys-lts (pos 0) (rw length-map (place {names_} (s .0) more)) (time-place {names_} (s .0) more) }})) $")
+    c.say("again ! less I s (s .0 + 1, (zs₃, zs₄)) (omega arith)" + ")" * w.close)
+    stays_ = c.out()
+    c.text = []
+    c.items, w.state = list(save[0]), dict(save[1])
+    w.close = 0
+    w.lists = {"lls": ("s .1 .0", "inv .long-lls"), "lts": ("s .1 .1", "inv .long-lts"), "work": ("v", "same")}
+    c.say(flip + f" leaves-loop ! (load ! (from ! (stop !)) (look ! {w.pos(test)} refl)) $ exec ! C Λ E M′.t-{k + 2} (atRet E Post) $")
+    w.calls = 4
+    w.run(body[k + 1:-1], [f"list-clear-safe {names_} r₅ (is₅ .1 .1)", f"list-few {names_}"])
+    done = f"subst (λ (z : List ℕ). ListPromise records (netOf (t-types .now) (t-rows .now) (t-due .now)) (countsOf tc rc) row (lentOf ys-lls ys-lts) ys-work r₇ (lentOf z (s .1 .1)) zs₆) (sym (inv .loads ∙ ap (λ (k : ℕ). copied k (loadsOf v) ys-lls) last)) (subst (λ (z : List ℤ). ListPromise records (netOf (t-types .now) (t-rows .now) (t-due .now)) (countsOf tc rc) row (lentOf ys-lls ys-lts) ys-work r₇ (lentOf (copied len (loadsOf v) ys-lls) z) zs₆) (sym (inv .times ∙ ap (λ (k : ℕ). copied k (timesOf v) ys-lts) last)) (list-done {names_} r₅ (is₅ .1 .1) zs₆ r₆ (is₆ .1 .1) r₇ (is₇ .1 .1)))"
+    w.leave(f"exits r₇ (s .1 .0) (s .1 .1) zs₆ (is₇ .1 .0) (inv .long-lls) (inv .long-lts) len₆ ({done})")
+    c.say(")" * w.close)
+    leaves_ = c.out()
+    K = w.knownArgs("𝓣 .C")
+    roomsT = "".join(f" ({n} : {t})" for n, t in w.rooms())
+    live = {1: w.sliceVal("types"), 2: w.sliceVal("rows"), 3: w.sliceVal("due"), 4: "vint w64 tc", 5: "vint w64 rc", 6: "vint w64 row", 7: w.sliceVal("lls"), 8: w.sliceVal("lts"), 9: w.sliceVal("work"),
+            verdict: TYPES["Checking"].val("verdict"), len_: "vint w64 len", at: "vint w64 (s .0)"}
+    fronts = []
+    for p, l in (("lls", "s .1 .0"), ("lts", "s .1 .1"), ("work", "v")):
+        fronts += [f"‵ ({w.mine(p, l)})", f"‵ (flft κ-{p} q-{p})"]
+    fronts.append("‵ ftrue")
+    for p in w.shrs:
+        fronts += [f"‵ (flft κ-{p} q-{p})", f"‵ ({w.shr(p)})"]
+    a = f"𝓣{known()} {rooms} {LS} r₁ (is₁ .1 .0) (is₁ .1 .1) zs₂ len₂ r₂ (is₂ .1 .0) (is₂ .1 .1)"
+    entry.append("use0 W (raw (fact 𝓤 (Inv zs₂ len₂ r₂ (0, (ys-lls, ys-lts))))) (factI 𝓤 _ (emp 𝓤) (record { fits = lit< tt; upto = omega arith; long-lls = refl; long-lts = refl; loads = refl; times = refl })) $")
+    entry.append(f"first ! $ blocks ! $ loops ! 𝓣 (less {a}) (InvImage·wf (λ (s : State). r₂ - s .0) (Nat·lt-wfRel .wf)) (I {a}) (turn {a}) (0, (ys-lls, ys-lts))" + ")" * entry_close)
+    E = "E = " + " ∷ ".join(f"({w.ty(j)}, {w.L[j]})" for j in range(w.n)) + " ∷ []"
+    kap = lambda i: "κs" + " .1" * i + " .0"
+    qs = lambda i: "qs" + " .1" * i + " .0"
+    act, rms = w.actuals(kap, qs, "a", "are")
+    path = MY + "listing.list_records"
+    t = f"""-- `records::listing::list_records` meets its contract: a walk of its MIR with a loop, written by tools/records.py.
+-- The invariant: so many pairs stand in the lent areas, and the run is as it was made. The measure is the pairs left.
+-- Assumes nothing.
+""" + WALK_USES + ENUM_USES + LIST_USES + """use lib.IntN.{pos}
+use lib.ListN.{set, length-map}
+use Rattle.rules.specs.Promises.{ListPromise, records}
+use Rattle.laws.specs.Checked.{tablesOf as netOf, countsOf}
+use Rattle.plan.specs.Chosen.{lentOf}
+use Rattle.records.specs.Listings.{ListVerdict, SeenIf}
+use Rattle.records.specs.Listed.{copied, copied-more, loadsOf, timesOf, list-makes, list-few, load-place, time-place, place, look-safe, looked-same, looked-load, looked-time, list-clear-safe, list-done}
+""" + TYPE_USES + known_uses(w, TABLE) + f"""use {path}.Key.{{name as #list-records}}
+use {path} as f
+use {path}.Statement as stated
+use {path}.Code as code
+use {path}.Code.Mir as M′
+
+""" + header(w) + f"module _ {MODULE}{w.telescope()} where\n" + names(w) + w.exits() + f"""
+  -- how many pairs are written, and the two areas
+  abbrev State : Type 0
+  State = ℕ × (List ℕ × List ℤ)
+
+  record Inv (v : List Cand) (same : length v ≡ m-work) (len : ℕ) (s : State) : Type 0 where
+    fits : s .0 < 2 ^ 64
+    upto : s .0 ≤ len
+    long-lls : length (s .1 .0) ≡ m-lls
+    long-lts : length (s .1 .1) ≡ m-lts
+    loads : s .1 .0 ≡ copied (s .0) (loadsOf v) ys-lls
+    times : s .1 .1 ≡ copied (s .0) (timesOf v) ys-lts
+
+  module _ (𝓣 : Tables 𝓤 H){K}{roomsT} ({LS} : ℕ) (verdict : Checking) (verdict-is : Is Y.the-row verdict ({TYPES['Checking'].vals('verdict')})) (judged : ListVerdict (t-types .now) (t-rows .now) (t-due .now) tc rc row m-lls m-lts m-work verdict)
+      (v : List Cand) (same : length v ≡ m-work) (len : ℕ) (len-fits : len < 2 ^ 64) (seen : SeenIf (t-rows .now) (t-due .now) (t-types .now) tc rc row ys-work v verdict len) where
+    abbrev C : Calls 𝓤 H
+    C = 𝓣 .C
+
+    abbrev Λ : Loops 𝓤 H
+    Λ = 𝓣 .Λ
+
+    abbrev fm : FmC 𝓤 H (W .laws) (𝓣 .C)
+    fm = fmOf 𝓤 H (W .laws) 𝓣
+
+    abbrev E : Env 𝓤 H
+    {E}
+
+    -- what is had at the test
+    abbrev I : State → List (Item 𝓤)
+    I s = raw (fact 𝓤 (Inv v same len s)) ∷ {' ∷ '.join(fronts)} ∷ {' ∷ '.join(items(w, live))} ∷ []
+
+    abbrev less : State → State → Type 0
+    less s′ s = len - s′ .0 < len - s .0
+
+    abbrev Left : Kit.Post 𝓤 H
+    Left = anyQ (afterBlock 𝓤 H (afterSeq 𝓤 H (Wp 𝓤 H C Λ E M′.t-{k + 2} (atReturn 𝓤 H E Post)) (atReturn 𝓤 H E Post)))
+
+    turn : (s : State) → Sq W (I s) (runs C Λ E M′.turn-1 (anyQ (afterTurn 𝓤 H (Again 𝓤 H A less I s) (Kit.post 𝓤 H Left))))
+    unfolding afterTurn
+    turn s =
+        heard ! (Inv v same len s) (λ inv. {t0}
+        test (ltb (s .0) len)
+        (λ t small. let more : s .0 < len = ltb→lt (s .0) len small in let on : s .0 + 1 < 2 ^ 64 = omega arith in
+        {stays_.replace('Inv (s .0 + 1', 'Inv v same len (s .0 + 1')})
+        (λ t large. let last : s .0 ≡ len = omega (arith, nltb→le (s .0) len large, inv .upto) in {leaves_}))
+
+  walk : (𝓣 : Tables 𝓤 H){K} →{''.join(f' {x} →' for _, x in w.rooms())} ent 𝓤 {onentry(w)} (WpFn 𝓤 H (𝓣 .C) (𝓣 .Λ) code.function ({margs(w)}) Post)
+  walk 𝓣{known()} {rooms} =
+      let fm : FmC 𝓤 H (W .laws) (𝓣 .C) = fmOf 𝓤 H (W .laws) 𝓣 in
+      qed W ({tokensItem(w)} ∷ {ownsItem(w)} ∷ []) ∵ enter ! (𝓣 .C) (𝓣 .Λ) code.function ({margs(w)}) _ $
+      {' '.join(entry)}
+
+module _ {MODULE} (𝓣 : Tables 𝓤 H){K} where
+  list-records-walks : Walks 𝓤 H A f.ended stayed (WpFn 𝓤 H (𝓣 .C) (𝓣 .Λ) code.function) (f.clauses 𝓤 H A mem run)
+  list-records-walks = walked 𝓤 H A f.ended stayed (f.clauses 𝓤 H A mem run) (WpFn 𝓤 H (𝓣 .C) (𝓣 .Λ) code.function) (λ κs. {w.vals_()}) (λ κs. {w.tells_(kap)})
+      (λ κs qs bounds a g are. via 𝓤 _ (fst∗ 𝓤 _ (f.clauses 𝓤 H A mem run κs a .requires g)) (walk 𝓤 H A W mem run {' '.join(act)} 𝓣{known()} {' '.join(rms)}))
+
+  list-records-meets : Meets 𝓤 H A f.signature (WpFn 𝓤 H (𝓣 .C) (𝓣 .Λ) code.function) (f.spec 𝓤 H A mem run)
+  list-records-meets =
+      walk-meets 𝓤 H A f.ended stayed W {w.goesAll()} (f.clauses 𝓤 H A mem run)
+      (WpFn 𝓤 H (𝓣 .C) (𝓣 .Λ) code.function) (WpFn-mono 𝓤 H (W .laws) 𝓣 code.function) list-records-walks
+
+pub list-records-spec : {{M : Type 1}} → stated.statement M
+unfolding code.routine tablesOf
+list-records-spec 𝓤 H 𝓜 𝓖 𝓡 =
+    entered 𝓤 H (tripleOf 𝓤 H (𝓖 .A) f.signature (f.spec 𝓤 H (𝓖 .A) (𝓜 .mem) (𝓡 .run)))
+    (tables 𝓤 H 𝓜 𝓡 code.env .C) (tables 𝓤 H 𝓜 𝓡 code.env .Λ) #list-records code.function (code.unfolded 𝓤 H 𝓜 𝓡)
+    (list-records-meets 𝓤 H (𝓖 .A) (givenOf 𝓤 H 𝓜 𝓖) (𝓜 .mem) (𝓡 .run) (tablesOf 𝓤 H 𝓜 (tables 𝓤 H 𝓜 𝓡 code.env)){cites(w, CALLED)})
+"""
+    open(HERE + "listing/list_records/Proof.antt", "w").write(t)
+
+
 if __name__ == "__main__":
     mir = parse(open(sys.argv[1]).read())
     for c in JOBS:
@@ -745,3 +969,9 @@ use Rattle.runs.proofs.Lending.{at-list, Slice, Sent, Back}
     make(mir)
     plan_in(mir)
     plan_records(mir)
+    for c in LISTS:
+        c.file = "ListCalls"
+    use = TYPE_USES + ENUM_USES + LIST_USES + lend + "use lib.ListN.{set}\nuse Rattle.rules.specs.Quantities.{listRoom}\nuse Rattle.records.specs.Listings.{ListVerdict, MakesIf, SeenIf, lookPass, clearOf, answerOf}\n"
+    open(HERE + "ListCalls.antt", "w").write(package_file(head, use, LISTS))
+    make_if(mir)
+    list_records(mir)

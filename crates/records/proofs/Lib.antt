@@ -3,3 +3,4 @@ pub mod WalkCalls
 pub mod Local
 pub mod EntryCalls
 pub mod PlanCalls
+pub mod ListCalls

@@ -9,3 +9,5 @@ pub mod Below
 pub mod AtRow
 pub mod Entries
 pub mod Planning
+pub mod Listings
+pub mod Listed

@@ -1,10 +1,10 @@
 // Planning over a lent run of records: `plan_records` keeps the promise that `plan_net` keeps on columns.
-use rules::Cand;
 use rules::Checking;
 use rules::Femtofarad;
 use rules::Femtosecond;
 use rules::Planning;
 use rules::Refusal;
+use rules::Cand;
 use runs::turns::Pass;
 use runs::turns::Step;
 ghost use mathlib.Core.Path.{_≡_};
@@ -17,6 +17,7 @@ ghost use Rattle.laws.specs.Checked.{tablesOf, countsOf};
 ghost use Rattle.records.specs.Entries.{driverPass, clearPass, Plans, Chose, Told, Verdict, isAccepted, refusedBy};
 
 pub mod jobs;
+pub mod listing;
 pub mod walk;
 
 const PLACEMENT_ROOM: usize = 4;
@@ -99,7 +100,7 @@ fn judge(
     net::check_net(types, rows, due, type_count, row_count)
 }
 
-fn is_accepted(c: Checking) -> bool
+pub fn is_accepted(c: Checking) -> bool
     ensures { λ r. ⌜ r ≡ isAccepted c ⌝ }
 {
     match c {

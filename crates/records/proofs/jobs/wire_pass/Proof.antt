@@ -1,4 +1,5 @@
 -- `records::jobs::wire_pass` meets its contract. Assumes nothing.
+use mathlib.Core.Path.{_≡_, ap}
 use borrow.Author.Needs.{needs}
 use Rattle.records.proofs.jobs.wire_pass.Statement.{statement}
 use Rattle.records.proofs.jobs.wire_pass.Tie as tie
@@ -13,7 +14,9 @@ pass-at-requires : tie.Need-pass-at-requires
 pass-at-requires c κs = search needs
 
 returns : tie.Need-returns
-returns c = rw (← (c .before .blank .ensures)) (c .pass-at .ensures)
+returns c =
+    let all : c .pass-at .result .left ≡ c .before .before .before .before .before .args .j .own = ap (λ p. p .left) (c .pass-at .ensures) in
+    rw (← (c .before .blank .ensures)) (c .pass-at .ensures)
 
 pub wire-pass-spec : {M : Type 1} → statement M
 wire-pass-spec = tie.close (tie.spec add-at blank-requires pass-at-requires returns)

@@ -1,5 +1,6 @@
 -- `runs::turns::wire_turn` meets its contract. Assumes nothing.
 use mathlib.Core.Path.{_≡_, refl, sym, ap, _∙_}
+use lib.Signed.{ltZ}
 use borrow.Author.Needs.{needs}
 use Rattle.runs.proofs.turns.wire_turn.Statement.{statement}
 use Rattle.runs.proofs.turns.wire_turn.Tie as tie
@@ -23,7 +24,10 @@ pass-at-requires : tie.Need-pass-at-requires
 pass-at-requires c κs = search needs
 
 returns : tie.Need-returns
-returns c = let g = sym (c .before .before .before .before .is-later .ensures) ∙ c .before .before .before .if1 .taken in (c .before .before .before .before .before .before .before .before .before .wired .ensures, rw g (c .pass-at .ensures))
+returns c =
+    let later : c .before .before .before .before .is-later .result ≡ ltZ (c .before .before .before .before .before .before .before .before .before .before .args .y .time .0) (c .before .before .before .before .before .before .before .before .before .wired .result .time .0) = c .before .before .before .before .is-later .ensures in
+    let g = sym later ∙ c .before .before .before .if1 .taken in
+    (c .before .before .before .before .before .before .before .before .before .wired .ensures, rw g (c .pass-at .ensures))
 
 sub-pass-at-2 : tie.Need-sub-pass-at-2
 sub-pass-at-2 c = search needs
@@ -35,7 +39,10 @@ pass-at-requires-2 : tie.Need-pass-at-requires-2
 pass-at-requires-2 c κs = search needs
 
 returns-2 : tie.Need-returns-2
-returns-2 c = let g = sym (c .before .before .before .before .is-later .ensures) ∙ c .before .before .before .if1 .left in (c .before .before .before .before .before .before .before .before .before .wired .ensures, rw g (c .pass-at2 .ensures))
+returns-2 c =
+    let later : c .before .before .before .before .is-later .result ≡ ltZ (c .before .before .before .before .before .before .before .before .before .before .args .y .time .0) (c .before .before .before .before .before .before .before .before .before .wired .result .time .0) = c .before .before .before .before .is-later .ensures in
+    let g = sym later ∙ c .before .before .before .if1 .left in
+    (c .before .before .before .before .before .before .before .before .before .wired .ensures, rw g (c .pass-at2 .ensures))
 
 pub wire-turn-spec : {M : Type 1} → statement M
 wire-turn-spec =

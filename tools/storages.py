@@ -1,0 +1,103 @@
+#!/usr/bin/env python3
+"""Runs every case of the vectors program through the records: a copy of the repository in which its planning asks `plan_records` and
+`list_records`, with a run made from the same stamped areas, and `rt try vectors` there. The output that is stored is what the columns
+give, so where it is met both storages give the same answers, the same lists and placements, and leave their areas alike.
+
+The copy is not proved: a caller that holds a run of its own is not covered.
+"""
+import os
+import shutil
+import subprocess
+import sys
+import tempfile
+
+HERE = os.path.dirname(os.path.dirname(os.path.abspath(__file__)))
+
+HELPERS = """
+pub fn pack(run: &mut [Cand], loads: &[u32], times: &[i64], words: &[u64]) {
+    let mut i = 0;
+    while i < run.len() {
+        let k = 4 * i;
+        run[i] = Cand {
+            load: Femtofarad(loads[i]),
+            time: Femtosecond(times[i]),
+            words: [words[k], words[k + 1], words[k + 2], words[k + 3]],
+        };
+        i += 1;
+    }
+}
+
+pub fn unpack(run: &[Cand], loads: &mut [u32], times: &mut [i64], words: &mut [u64]) {
+    let mut i = 0;
+    while i < run.len() {
+        let x = run[i];
+        let v = x.words;
+        loads[i] = x.load.0;
+        times[i] = x.time.0;
+        let mut k = 0;
+        while k < 4 {
+            words[4 * i + k] = v[k];
+            k += 1;
+        }
+        i += 1;
+    }
+}
+
+pub fn blank() -> Cand {
+    Cand { load: Femtofarad(0), time: Femtosecond(0), words: [0; 4] }
+}
+"""
+
+# The program's own areas hold 775 records; the shortest column says how many are lent.
+ASKED = """    let none = work::blank();
+    let mut run = [none; 775];
+    work::pack(&mut run, &loads, &times, &words);
+    let lent = stamps::least(stamps::least({loads}, {times}), {words} / 4);
+    let answer = {call}, &mut run[..lent]);
+    work::unpack(&run, &mut loads, &mut times, &mut words);
+"""
+
+PLAN = "records::plan_records(types, rows, due, type_count, row_count, &mut placement[..a]"
+LIST = "records::listing::list_records(types, rows, due, type_count, row_count, row, &mut list_loads[..a], &mut list_times[..b]"
+
+
+def between(text, start, end, new):
+    """text with what stands from start up to end replaced; each has to occur"""
+    i = text.index(start)
+    return text[:i] + new + text[text.index(end, i):]
+
+
+def edit(path, change):
+    with open(path) as f:
+        text = f.read()
+    with open(path, "w") as f:
+        f.write(change(text))
+
+
+def work(text):
+    uses = "use rules::Cand;\nuse rules::Femtofarad;\nuse rules::Femtosecond;\nuse rules::Refusal;\n"
+    return text.replace("use rules::Refusal;\n", uses, 1) + HELPERS
+
+
+def planning(text):
+    return between(text, "    let answer = plan::plan_net(", "    plan_line(answer", ASKED.format(call=PLAN, loads="b", times="c", words="d"))
+
+
+def listing(text):
+    return between(text, "    let answer = plan::list_at(", "    list_line(answer", ASKED.format(call=LIST, loads="c", times="d", words="e"))
+
+
+with tempfile.TemporaryDirectory() as top:
+    copy = os.path.join(top, "copy")
+    shutil.copytree(HERE, copy, ignore=shutil.ignore_patterns(".git", "build", "target"))
+    source = os.path.join(copy, "crates/vectors/src")
+    edit(os.path.join(source, "work.rt"), work)
+    edit(os.path.join(source, "planning.rt"), planning)
+    edit(os.path.join(source, "listing.rt"), listing)
+    edit(os.path.join(copy, "crates.txt"), lambda t: t.replace("\nvectors: ", "\nvectors: runs records ", 1))
+    run = subprocess.run(["rt", "try", "vectors"], cwd=copy, stdout=subprocess.PIPE, stderr=subprocess.STDOUT, text=True)
+    # The interpreter's limit of steps is too low for the cases, on columns as well; the three compiled programs end.
+    if run.stdout.count("ok: the native program") != 3:
+        print(run.stdout, end="")
+        sys.exit("records and columns differ")
+    print("records and columns write the same")
