@@ -706,7 +706,7 @@ def plan_records(mir):
     w.run(body[6:7], [])
     w.leave(f"exits r₂ ys-placement ys-work (is₂ .1 .0) refl refl (plan-refused {base} (refused-is r₁ r₃ (is₃ .1 .1) no) r₂ (is₂ .1 .1))")
     c.say(")" + ")" * close)
-    plain(w, "", "", ENUM_USES + "use Rattle.rules.specs.Promises.{PlanPromise}\nuse Rattle.laws.specs.Checked.{tablesOf as netOf, countsOf}\nuse Rattle.records.specs.Entries.{records}\nuse Rattle.records.specs.Planning.{accepted-is, refused-is, verdict-plans, verdict-four, plan-done, plan-refused}\n", c.out())
+    plain(w, "", "", ENUM_USES + "use Rattle.rules.specs.Promises.{PlanPromise, records}\nuse Rattle.laws.specs.Checked.{tablesOf as netOf, countsOf}\nuse Rattle.records.specs.Planning.{accepted-is, refused-is, verdict-plans, verdict-four, plan-done, plan-refused}\n", c.out())
 
 
 TYPES["Listing"] = Type("Listing", "Listing", "Z", "EL")

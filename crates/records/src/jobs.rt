@@ -1,10 +1,10 @@
 // What is done with a row's own list, pass by pass. At its site: its pin is put down, the best behind each type is chosen, and each is put
 // in. Then it goes through the row's wire, and is joined with the list that waits before it.
+use rules::Cand;
 use rules::Femtofarad;
 use rules::Femtosecond;
 use rules::Kind;
 use rules::Ohm;
-use rules::Cand;
 use runs::turns::Pass;
 use runs::turns::Step;
 ghost use mathlib.Core.Path.{_≡_};

@@ -1,10 +1,10 @@
 // Planning over a lent run of records: `plan_records` keeps the promise that `plan_net` keeps on columns.
+use rules::Cand;
 use rules::Checking;
 use rules::Femtofarad;
 use rules::Femtosecond;
 use rules::Planning;
 use rules::Refusal;
-use rules::Cand;
 use runs::turns::Pass;
 use runs::turns::Step;
 ghost use mathlib.Core.Path.{_≡_};

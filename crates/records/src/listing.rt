@@ -1,11 +1,11 @@
 // Listing over a lent run of records: `list_records` keeps the promise that `list_at` keeps on columns.
+use rules::Cand;
 use rules::Checking;
 use rules::Femtofarad;
 use rules::Femtosecond;
 use rules::Listing;
 use rules::Ohm;
 use rules::Refusal;
-use rules::Cand;
 use runs::turns::Pass;
 use runs::turns::Step;
 ghost use mathlib.Core.Path.{_≡_};

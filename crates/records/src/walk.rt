@@ -1,7 +1,7 @@
 // The recursion over the table: the list of what hangs from a row on, and the list at a row.
 use crate::jobs;
-use rules::Kind;
 use rules::Cand;
+use rules::Kind;
 ghost use mathlib.Core.Path.{_≡_};
 ghost use mathlib.Core.Bool.{cond};
 ghost use Prim.Native.Nat.{_+_, _*_, _≤_, _<_};

@@ -19,6 +19,8 @@ use ghost.Atoms.{Atoms, sem}
 use contract.Monad.{Fun, fact}
 use types.Kit.{Given, ‵, drop, raw, _⊛_, some, later, _$_, _∵_, !, qed, move, keep, use1, split, join, pick, fsplit, fjoin, feqL, feqI, frame, await, updating, now as at-once, show, check, done}
 use denote.RattleType.{RattleType}
+use denote.Array.{Array}
+use denote.Enum.Laws as EL
 use denote.Laws.{Is, shows}
 use denote.Plain.{Nothing, Boolean, uint-makes}
 use denote.Builtin.{u16, u32, u64, usize, i64}

@@ -1,7 +1,7 @@
 // A pass over the run: the only functions that read and store its records.
-use rules::Cand;
 use crate::turns;
 use crate::turns::Pass;
+use rules::Cand;
 ghost use Rattle.runs.specs.Passes.{Ready, Took, Safe, Swept};
 
 // One turn: two records are read, one is stored.

@@ -1,6 +1,6 @@
 // One turn of a pass by value: what is read at two places decides what is put at a third, and where the pass goes on.
-use rules::Cand;
 use crate::values;
+use rules::Cand;
 use rules::Femtofarad;
 use rules::Femtosecond;
 use rules::Ohm;
