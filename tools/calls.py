@@ -4,7 +4,8 @@ known of what it hands back, and that the two meet its `pre` and its `post`. Wha
 
 A callee is described by its parameters (name, kind), its result, and its two clauses. Kinds: `mut T` and `shr T` for slices,
 `usize`, `bool`, and `S` for a struct or enum S. A clause names parameters; a slice's name stands for its list, and of a `mut`
-slice the last list is `zs`, the result `r`.
+slice the last list is `zs`, the result `r`. Where several slices are `mut`, or one that is not the first parameter, each has a lifetime
+of its own, and the last list of `x` is `x′`.
 """
 
 NUM = {"usize": ("usize", "w64"), "u32": ("u32", "w32"), "u64": ("u64", "w64")}
@@ -101,21 +102,62 @@ class Callee:
         self.shr = [p for p, k in params if k.startswith("shr ")]
         self.mut = [p for p, k in params if k.startswith("mut ")]
         self.kind = dict(params)
+        self.many = len(self.mut) > 1 or bool(self.mut and params[0][0] not in self.mut)
 
     # ---- pieces
+    def of(self, name, p):
+        """a name of the slice p's own, where there are several"""
+        return f"{name}-{p}" if self.many else name
+
+    def seps(self, parts):
+        if not parts:
+            return "ftrue"
+        t = f"({parts[-1]})"
+        for x in reversed(parts[:-1]):
+            t = f"(fsep ({x}) {t})"
+        return t[1:-1]
+
+    def sent(self):
+        """what is handed over where several slices are lent, as one formula"""
+        slice = lambda p: f"Slice {self.rowOf(self.elem(p))} b-{p} o-{p} (ν-{p} ∷ []) m-{p} δ-{p} l-{p}"
+        return self.seps([x for p in self.mut for x in (f"flft (ν-{p} ∷ []) fullShare", slice(p))] + [self.packed()])
+
+    def came(self, x, nu=None, Y=None):
+        """what is handed back, the last lists in x .1"""
+        nu = nu or (lambda p: (f"ν-{p}", f"δ-{p}"))
+        return self.seps([y for p in self.mut for y in (f"flft ({nu(p)[0]} ∷ []) fullShare", f"finally {self.rowOf(self.elem(p))} {nu(p)[1]} ({self.last(x, p)})")] + [Y or self.tokens()])
+
+    def last(self, x, p):
+        i = self.mut.index(p)
+        return f"{x} .1" + " .1" * i + (" .0" if i < len(self.mut) - 1 else "")
+
+    def lastsType(self):
+        t = f"List {self.denot(self.elem(self.mut[-1]))}"
+        for p in reversed(self.mut[:-1]):
+            t = f"(List {self.denot(self.elem(p))} × {t})"
+        return f"{self.denot(self.result)} × {t}"
+
+    def learned(self, x, w, m, says):
+        """what is known of what is handed back"""
+        lens = f"length ({self.last(x, self.mut[-1])}) ≡ {m(self.mut[-1])}"
+        for p in reversed(self.mut[:-1]):
+            lens = f"(length ({self.last(x, p)}) ≡ {m(p)}) × ({lens})"
+        return f"({lens}) × {says} ({x} .0) " + " ".join(f"({self.last(x, p)})" for p in self.mut) + f" {w}"
+
     def elem(self, p):
         return self.kind[p].split(" ", 1)[1]
 
     def rowOf(self, k):
         if k.startswith("array "):
-            return f"(Array {k[6:]})"
+            elem, count = k.split(" ")[1:]
+            return f"(Array {self.rowOf(elem)} {count})"
         return self.types[k].row() if k in self.types else {"bool": "Boolean"}.get(k, k)
 
     def denot(self, k):
         if k in self.types:
             return self.types[k].denot
         if k.startswith("array "):
-            return "List ℕ"
+            return f"List {self.denot(k.split(' ')[1])}"
         return {"i64": "ℤ", "bool": "Bool", "unit": "Unit {0}"}.get(k, "ℕ")
 
     def args(self):
@@ -123,8 +165,8 @@ class Callee:
         a = []
         for s in self.shr:
             a += [f"κ-{s}", f"q-{s}", f"t-{s}"]
-        if self.mut:
-            a += ["b", "o", "m", "l"]
+        for p in self.mut:
+            a += [self.of(x, p) for x in ("b", "o", "m", "l")]
         for p, k in self.params:
             if not k.startswith(("shr ", "mut ")):
                 a.append(p)
@@ -134,8 +176,8 @@ class Callee:
         t = ""
         for s in self.shr:
             t += f" (κ-{s} : Lft) (q-{s} : Share) (t-{s} : RefT (List {self.denot(self.elem(s))}))"
-        if self.mut:
-            t += f" (b o m : ℕ) (l : List {self.denot(self.elem(self.mut[0]))})"
+        for p in self.mut:
+            t += f" ({self.of('b', p)} {self.of('o', p)} {self.of('m', p)} : ℕ) ({self.of('l', p)} : List {self.denot(self.elem(p))})"
         for p, k in self.params:
             if not k.startswith(("shr ", "mut ")):
                 t += f" ({p} : {self.denot(k)})"
@@ -144,7 +186,7 @@ class Callee:
     def value(self, p):
         k = self.kind[p]
         if k.startswith("mut "):
-            return "sliceVal (b, o) m"
+            return f"sliceVal ({self.of('b', p)}, {self.of('o', p)}) {self.of('m', p)}"
         if k.startswith("shr "):
             return f"sliceVal (t-{p} .ptr) (length (t-{p} .now))"
         if k in NUM:
@@ -158,34 +200,24 @@ class Callee:
 
     def packed(self):
         parts = [f"flft κ-{s} q-{s}" for s in self.shr] + [self.shared(s) for s in self.shr]
-        if not parts:
-            return "ftrue"
-        t = f"({parts[-1]})"
-        for x in reversed(parts[:-1]):
-            t = f"(fsep ({x}) {t})"
-        return t[1:-1]
+        return self.seps(parts)
 
     def tokens(self):
         parts = [f"flft κ-{s} q-{s}" for s in self.shr]
-        if not parts:
-            return "ftrue"
-        t = f"({parts[-1]})"
-        for x in reversed(parts[:-1]):
-            t = f"(fsep ({x}) {t})"
-        return t[1:-1]
+        return self.seps(parts)
 
     def lifetimes(self):
         return [p for p, k in self.params if k.startswith(("shr ", "mut "))]
 
     def kappas(self):
-        return nest(["ν ∷ []" if p in self.mut else f"κ-{p}" for p in self.lifetimes()])
+        return nest([f"{self.of('ν', p)} ∷ []" if p in self.mut else f"κ-{p}" for p in self.lifetimes()])
 
     def shares(self):
         return nest(["fullShare" if p in self.mut else f"q-{p}" for p in self.lifetimes()])
 
     def argTuple(self):
-        R = self.rowOf(self.elem(self.mut[0])) if self.mut else ""
-        return nest([f"at-list {R} b o δ l" if p in self.mut else (f"t-{p}" if p in self.shr else p) for p, k in self.params])
+        at = lambda p: " ".join([self.rowOf(self.elem(p))] + [self.of(x, p) for x in ("b", "o", "δ", "l")])
+        return nest([f"at-list {at(p)}" if p in self.mut else (f"t-{p}" if p in self.shr else p) for p, k in self.params])
 
     def valTuple(self):
         return nest([f"{self.value(p)} ∷ []" for p, k in self.params])
@@ -193,10 +225,12 @@ class Callee:
     def clause(self, text, zs):
         import re
         for p in self.mut:
-            text = re.sub(rf"\b{p}\b", "l", text)
+            if self.many:
+                text = re.sub(rf"\b{p}′", zs(p) if callable(zs) else zs, text)
+            text = re.sub(rf"(?<![\w\-]){p}(?![\w\-])" if self.many else rf"\b{p}\b", self.of("l", p), text)
         for s in self.shr:
             text = re.sub(rf"\b{s}\b", f"(t-{s} .now)", text)
-        return text.replace("zs", zs)
+        return text if self.many else text.replace("zs", zs)
 
     def resVal(self, r):
         if self.result == "unit":
@@ -226,8 +260,9 @@ class Callee:
         R = self.rowOf(self.elem(self.mut[0])) if self.mut else ""
         D = self.denot(self.elem(self.mut[0])) if self.mut else ""
         res = self.denot(self.result)
-        bind = "ν δ" if self.mut else ""
-        bound = "(ν : ℕ) (δ : GName) → " if self.mut else ""
+        bind = " ".join(f"{self.of('ν', p)} {self.of('δ', p)}" for p in self.mut)
+        bound = "".join(f"({self.of('ν', p)} : ℕ) ({self.of('δ', p)} : GName) → " for p in self.mut)
+        lists = [self.of("zs", p) for p in self.mut]
         to = f"to-{n} {bind}".strip()
         out = []
         w = out.append
@@ -236,17 +271,18 @@ class Callee:
         w(f"  {N} = tripleOf 𝓤 H A {n}.signature ({n}.spec 𝓤 H A mem run)")
         w("")
         w(f"  module _ (W : Given 𝓤 H A){self.telescope()} where")
-        w(f"    abbrev pub to-{n} : {'ℕ → GName → ' if self.mut else ''}{N} .Ghost")
+        w(f"    abbrev pub to-{n} : {'ℕ → GName → ' * len(self.mut)}{N} .Ghost")
         w(f"    {to} = (({self.kappas()}, {self.shares()}, tt, {self.argTuple()}, {self.valTuple()}), tt)")
         w("")
         w(f"    abbrev pub {n}-vals : List Val")
         w(f"    {n}-vals = " + "".join(f"{self.value(p)} ∷ " for p, k in self.params) + "[]")
         w("")
-        says = f"(w ≡ {self.resVal('r')}) × ({self.resFact('r')} × ({self.clause(self.ens, 'zs')}))"
+        zs0 = (lambda p: f"zs-{p}") if self.many else "zs"
+        says = f"(w ≡ {self.resVal('r')}) × ({self.resFact('r')} × ({self.clause(self.ens, zs0)}))"
         if self.result.startswith("array "):
-            says = f"Is {self.resRow()} r (w ∷ []) × (Unit {{0}} × ({self.clause(self.ens, 'zs')}))"
-        w(f"    abbrev pub {n}-says : {res} → {'List ' + D + ' → ' if self.mut else ''}Val → Type 0")
-        w(f"    {n}-says r {'zs ' if self.mut else ''}w = {says}")
+            says = f"Is {self.resRow()} r (w ∷ []) × (Unit {{0}} × ({self.clause(self.ens, zs0)}))"
+        w(f"    abbrev pub {n}-says : {res} → {''.join('List ' + self.denot(self.elem(p)) + ' → ' for p in self.mut)}Val → Type 0")
+        w(f"    {n}-says r {''.join(z + ' ' for z in lists)}w = {says}")
         w("")
         # goes
         fits, names = [], []
@@ -261,13 +297,24 @@ class Callee:
                 fits.append(f"Is {self.rowOf(k)} {p} ({self.types[k].vals(p)})")
                 names.append(f"{p}-is")
         sent = f"(Sent {R} b o 𝓤 H A ({self.packed()}) m ν δ l)" if self.mut else f"(sem 𝓤 H A ({self.packed()}))"
+        if self.many:
+            sent = f"(sem 𝓤 H A ({self.sent()}))"
         w(f"    pub goes-{n} : " + "".join(f + " → " for f in fits) + f"{bound}ent 𝓤 {sent} ({N} .pre ({to}))")
         lead = f"    goes-{n} " + " ".join(names) + (" " if names else "") + bind
         start = (["ν", "slice"] if self.mut else []) + ["X"]
         itm = {"ν": "‵ (flft (ν ∷ []) fullShare)", "slice": f"‵ (Slice {R} b o (ν ∷ []) m δ l)", "X": f"‵ ({self.packed()})"}
+        if self.many:
+            start, itm = ["all"], {"all": f"‵ ({self.sent()})"}
         c = Ctx(start)
         if self.req:
             c.say("says ! within $")
+        if self.many:
+            cur = "all"
+            names_ = [x for p in self.mut for x in (f"ν {p}", f"slice {p}")] + ["X"]
+            for x, y in enumerate(names_[:-1]):
+                c.move(cur)
+                cur = "X" if x == len(names_) - 2 else f"all{x}"
+                c.split([y, cur])
         # unpack X
         if self.shr:
             parts = [f"tok {s}" for s in self.shr] + [f"sh {s}" for s in self.shr]
@@ -285,7 +332,7 @@ class Callee:
             c.move("X")
             c.items[0] = "acc"
         for p in reversed(self.lifetimes()):
-            t = "ν" if p in self.mut else f"tok {p}"
+            t = (f"ν {p}" if self.many else "ν") if p in self.mut else f"tok {p}"
             c.move(t, "acc")
             c.join("acc", "join")
         c.move("acc")
@@ -297,7 +344,7 @@ class Callee:
         c.put("acc", "nothing ! $")
         for p, k in reversed(self.params):
             if k.startswith("mut "):
-                c.move("slice", "acc")
+                c.move(f"slice {p}" if self.many else "slice", "acc")
             elif k.startswith("shr "):
                 c.move(f"sh {p}", "acc")
             elif k in NUM:
@@ -319,13 +366,16 @@ class Callee:
         # gets
         toks = "‵ ftrue"
         for p in reversed(self.lifetimes()):
-            toks = (f"(‵ (flft (ν ∷ []) fullShare) ⊛ {toks})" if p in self.mut else f"(‵ (flft κ-{p} q-{p}) ⊛ {toks})")
+            toks = (f"(‵ (flft ({self.of('ν', p)} ∷ []) fullShare) ⊛ {toks})" if p in self.mut else f"(‵ (flft κ-{p} q-{p}) ⊛ {toks})")
         ens_of = f"ensured 𝓤 H A {n}.ended ({n}.clauses 𝓤 H A mem run) {self.kappas()} {self.argTuple()} tt"
         lasts = f"lasts {n}.ended {self.kappas()} {self.argTuple()}"
-        lens = "length l ≡ m → " if self.mut else ""
-        ename = "e " if self.mut else ""
+        lens = "".join(f"length {self.of('l', p)} ≡ {self.of('m', p)} → " for p in self.mut)
+        ename = "".join(f"{self.of('e', p)} " for p in self.mut)
         Y = self.tokens()
-        if self.mut:
+        if self.many:
+            body = f"guard 𝓤 ({self.learned('x', 'w', lambda p: f'm-{p}', n + '-says')}) (sem 𝓤 H A ({self.came('x')}))"
+            goal = f"(ex 𝓤 (λ (x : {self.lastsType()}). {body}))"
+        elif self.mut:
             goal = f"(Back {R} b o 𝓤 H A ({Y}) m {n}-says ν δ w)"
         else:
             goal = f"(ex 𝓤 (λ (r : {res}). guard 𝓤 ({n}-says r w) (sem 𝓤 H A ({Y}))))"
@@ -342,8 +392,9 @@ class Callee:
         if self.mut:
             shape = "Unit {0}"
             for p, k in reversed(self.params):
-                shape = f"({'List ' + D if p in self.mut else 'Unit {0}'} × {shape})"
-            cl = self.clause(self.ens, "(zs .0)")
+                shape = f"({'List ' + self.denot(self.elem(p)) if p in self.mut else 'Unit {0}'} × {shape})"
+            at = {p: "zs" + " .1" * x + " .0" for x, (p, k) in enumerate(self.params)}
+            cl = self.clause(self.ens, (lambda p: f"({at[p]})") if self.many else "(zs .0)")
             c.say(f"use1 W (some (λ (zs : {shape}). ‵ ({lasts} zs) ⊛ raw (fact 𝓤 ({cl})))) (id⊢ 𝓤 _) $ pick ! (λ zs.")
             close += 1
             c.split(["lasts", "fact"], "split")
@@ -351,12 +402,27 @@ class Callee:
             c.say(f"heard ! ({cl}) (λ is.")
             close += 1
             c.items.pop(0)
-            c.split(["lasts", "rest"])
-            c.split(["final", "len"])
-            c.move("len")
-            c.say("feqL ! (λ len.")
-            close += 1
-            c.items.pop(0)
+            if self.many:
+                left = list(self.mut)
+                for p, k in self.params:
+                    if not left:
+                        break
+                    c.move("lasts")
+                    c.split([f"last {p}", "lasts"])
+                    if p in self.mut:
+                        c.split([f"final {p}", f"len {p}"])
+                        c.move(f"len {p}")
+                        c.say(f"feqL ! (λ len-{p}.")
+                        close += 1
+                        c.items.pop(0)
+                        left.remove(p)
+            else:
+                c.split(["lasts", "rest"])
+                c.split(["final", "len"])
+                c.move("len")
+                c.say("feqL ! (λ len.")
+                close += 1
+                c.items.pop(0)
         else:
             cl = self.clause(self.ens, "zs")
             c.say(f"use1 W (raw (fact 𝓤 ({cl}))) (says-of-{n} r) $ heard ! ({cl}) (λ is.")
@@ -384,7 +450,7 @@ class Callee:
         order = []
         for p in self.lifetimes():
             c.move(cur)
-            t = "ν" if p in self.mut else f"tok {p}"
+            t = (f"ν {p}" if self.many else "ν") if p in self.mut else f"tok {p}"
             c.split([t, cur + "'"], "split")
             cur = cur + "'"
             order.append(t)
@@ -399,7 +465,20 @@ class Callee:
         else:
             acc = cur
         c.say("at-once ! $")
-        if self.mut:
+        if self.many:
+            value = at[self.mut[-1]]
+            eqs = f"len-{self.mut[-1]} ∙ e-{self.mut[-1]}"
+            for p in reversed(self.mut[:-1]):
+                value = f"({at[p]}, {value})"
+                eqs = f"(len-{p} ∙ e-{p}, {eqs})"
+            for p in reversed(self.mut):
+                for x in (f"final {p}", f"ν {p}"):
+                    c.move(x, acc)
+                    c.join("back")
+                    acc = "back"
+            c.say(f"show ! (λ (x : {self.lastsType()}). {body}) (r, {value}) $ check ! ({eqs}, {known}) $")
+            c.keep(acc)
+        elif self.mut:
             body = f"guard 𝓤 ((length (x .1) ≡ m) × {n}-says (x .0) (x .1) w) (sep 𝓤 (A .lft (ν ∷ []) fullShare) (sep 𝓤 (sem 𝓤 H A (finally {R} δ (x .1))) (sem 𝓤 H A ({Y}))))"
             c.say(f"show ! (λ (x : {res} × List {D}). {body}) (r, zs .0) $ check ! (len ∙ e, {known}) $")
             c.keep("ν", "final", acc)

@@ -16,16 +16,19 @@ HEAD = """-- What a walk knows of the functions of this crate that are lent the 
 """
 
 MY = "Rattle.runs.proofs."
-USE = """use Rattle.rules.specs.declared.Cand.{Cand}
-use Rattle.runs.specs.declared.turns.Pass.{Pass}
+USE = """use lib.ListN.{getD}
+use Rattle.rules.specs.Promises.{zeros}
+use Rattle.rules.specs.declared.Cand.{Cand}
+use Rattle.turns.specs.declared.Pass.{Pass}
 use Rattle.runs.specs.Passes.{Ready, Took, Safe, Swept}
 use Rattle.rules.proofs.Cand as T
 use Rattle.rules.proofs.Cand.Laws as T′
-use Rattle.runs.proofs.turns.Pass as P
-use Rattle.runs.proofs.turns.Pass.Laws as P′
+use Rattle.turns.proofs.Pass as P
+use Rattle.turns.proofs.Pass.Laws as P′
 use Rattle.runs.proofs.Lending.{at-list, Slice, Sent, Back}
 """
 CALLEES = [
+    Callee("read-at", MY + "passes.read_at", [("run", "shr Cand"), ("i", "usize")], "Cand", "r ≡ getD run i zeros", "i < length run", TYPES),
     Callee("turn-at", MY + "passes.turn_at", [("run", "mut Cand"), ("p", "Pass")], "Pass", "Took p run r zs", "Ready p run", TYPES),
     Callee("sweep", MY + "passes.sweep", [("run", "mut Cand"), ("p", "Pass")], "Pass", "Swept p run r zs", "Safe p run", TYPES),
 ]

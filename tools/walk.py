@@ -61,6 +61,11 @@ class Bool:
         return f"vbool {par(self.expr)}"
 
 
+class Nothing:
+    def value(self, _):
+        return "vunit"
+
+
 class Val:
     """a struct or an enum by value"""
 
@@ -107,6 +112,7 @@ class Walk:
         self.name = path.split("::")[-1].replace("_", "-")
         self.used = []
         self.extra = {}
+        self.own = {}  # arrays of its own that are lent as `&mut [T]`: the name, to the local and its value
 
     # ---- names
     def elem(self, p):
@@ -137,6 +143,8 @@ class Walk:
         return f"ys-{p}"
 
     def sliceVal(self, p):
+        if p in self.own:
+            return f"sliceVal ({self.L[self.own[p][0]]}, 0) {self.own[p][1].n}"
         if p in self.muts:
             return f"sliceVal (b-{p}, o-{p}) m-{p}"
         return f"sliceVal (t-{p} .ptr) (length (t-{p} .now))"
@@ -150,6 +158,11 @@ class Walk:
     def ty(self, j):
         return self.tyOf(self.locals[j])
 
+    def behind(self, t):
+        """a declared type behind a reference"""
+        short = t[1][1].strip('"').split("::")[-1]
+        return f"pointee ({self.types[short].row()} .written)"
+
     def tyOf(self, t):
         if isinstance(t, str):
             return t
@@ -162,8 +175,9 @@ class Walk:
         if h == "tyRef":
             r = t[1] if isinstance(t[1], str) else f"({t[1][0]} {t[1][1]})"
             if t[3][0] == "tyNamed":
-                short = t[3][1][1].strip('"').split("::")[-1]
-                return f"tyRef {r} {t[2]} (pointee ({self.types[short].row()} .written))"
+                return f"tyRef {r} {t[2]} ({self.behind(t[3])})"
+            if t[3][0] == "tyArray" and t[3][1][0] == "tyNamed":
+                return f"tyRef {r} {t[2]} (tyArray ({self.behind(t[3][1])}) {t[3][2][1]})"
             return f"tyRef {r} {t[2]} ({self.tyOf(t[3])})"
         if h == "tyStruct":
             return f"sliceTy ({self.tyOf(lst(t[2])[0])})"
@@ -201,6 +215,8 @@ class Walk:
     def meta(self, o):
         if o in ("true", "false"):
             return Bool(o)
+        if o == "unit":
+            return Nothing()
         if o[0] == "int":
             return Num(o[2], "lit< tt", f"w{o[1]}")
         j, steps = self.place(o[1])
@@ -215,11 +231,14 @@ class Walk:
     def typed(self, m, j):
         if isinstance(m, Num):
             return f"(tt, record {{ fits = {m.fits} }})"
-        if isinstance(m, Bool):
+        if isinstance(m, (Bool, Nothing)):
             return "(tt, tt)"
         if isinstance(m, Ref):
             return f"(tt, (tt, (record {{ fits = room-{m.name} .0 }}, tt)))"
         if isinstance(m, Arr):
+            if m.elem in self.types:
+                t = self.types[m.elem]
+                return f"(array-lawful 𝓤 H A W {t.row()} ({t.law}.lawful {t.m}.the-type {t.m}′.the-laws 𝓤 H A W) {m.n} .typed {m.expr} _ {par(m.is_)} .0)"
             return f"(array-lawful 𝓤 H A W {m.elem} (uint-lawful 𝓤 H A W {m.width}) {m.n} .typed {m.expr} _ {par(m.is_)} .0)"
         return m.type.typed(par(m.expr), par(m.is_))
 
@@ -289,10 +308,10 @@ class Walk:
         for p in cal.shr:
             a = metas[p].name
             args += [f"κ-{a}", f"q-{a}", f"t-{a}"]
-        if cal.mut:
-            run = metas[cal.mut[0]].name
-            l, len_ = self.lists[run]
-            args += [f"b-{run}", f"o-{run}", f"m-{run}", par(l)]
+        for p in cal.mut:
+            run = metas[p].name
+            l, len_ = self.lists[run] if run in self.lists else (self.own[run][1].expr, f"len-{run}")
+            args += [self.at(run, x) for x in ("b", "o", "m")] + [par(l)]
         for p, k in cal.params:
             if not k.startswith(("mut ", "shr ")):
                 args.append(par(metas[p].expr))
@@ -308,15 +327,7 @@ class Walk:
         parts_t = [f"flft κ-{metas[p].name} q-{metas[p].name}" for p in cal.shr]
         parts_s = [self.shr(metas[p].name) for p in cal.shr]
 
-        def seps(parts):
-            if not parts:
-                return "ftrue"
-            t = f"({parts[-1]})"
-            for x in reversed(parts[:-1]):
-                t = f"(fsep ({x}) {t})"
-            return t[1:-1]
-
-        X, Y = seps(parts_t + parts_s), seps(parts_t)
+        X, Y = cal.seps(parts_t + parts_s), cal.seps(parts_t)
         if cal.shr:
             for p in cal.shr:
                 a = metas[p].name
@@ -334,7 +345,25 @@ class Walk:
         else:
             acc = "true"
         known = f"known-{cal.name}"
-        if cal.mut:
+        rr, ii = f"r{i}", f"is{i}"
+        if cal.many:
+            rr, ii = f"(x{i} .0)", f"(got{i} .1)"
+            self.lend(cal, {p: metas[p].name for p in cal.mut}, acc)
+            bind = " ".join(f"ν-{metas[p].name} δ-{metas[p].name}" for p in cal.mut)
+            to = f"(to-{cal.name} {A} {bind})"
+            c.say(f"use1 W (raw ({N} 𝓤 H A mem run .pre {to})) (goes-{cal.name} {A}" + "".join(" " + g for g in goes) + f" {bind}) $")
+            c.items[0] = "Pre"
+            os = "".join(f"and-then ! {self.opd(o)} (" for o in ops) + "no-more !" + ")" * len(ops)
+            word = "calls-at-last" if last else "calls-at"
+            c.say(f"{word} ! fm ({N} 𝓤 H A mem run) {known} {to} ({os}) (λ w{i}.")
+            learned = cal.learned("x", f"w{i}", lambda p: self.at(metas[p].name, "m"), f"{cal.name}-says {A}")
+            came = cal.came("x", lambda p: (f"ν-{metas[p].name}", f"δ-{metas[p].name}"), Y)
+            lens = " ".join(par(self.lists[metas[p].name][1]) for p in cal.mut)
+            c.say(f"use1 W (later (some (λ (x : {cal.lastsType()}). given ({learned}) (‵ ({came}))))) (gets-{cal.name} {A} {lens} {bind} w{i}) $ await ! tt $ pick ! (λ x{i}. learn ! (λ got{i}.")
+            self.close += 3
+            c.items[0] = "Y"
+            self.unlend(cal, {p: metas[p].name for p in cal.mut}, f"x{i}", f"got{i}")
+        elif cal.mut:
             c.move(f"S {run}", f"K {run}", acc)
             R = self.row(self.elem(run))
             to = f"(to-{cal.name} {A} ν δ)"
@@ -343,7 +372,7 @@ class Walk:
             c.items = ["Pre", "Parted"] + rest
             os = "".join(f"and-then ! {self.opd(o)} (" for o in ops) + "no-more !" + ")" * len(ops)
             self_ = self.cycle and self.cycle.get(path)
-            met = f"(λ ν δ. self {to} {par(facts.pop(0))})" if self_ else f"(λ ν δ. {known} {to})"
+            met = f"(λ ν δ. self-{cal.name} {to} {par(facts.pop(0))})" if self_ else f"(λ ν δ. {known} {to})"
             c.say(f"{word} ! fm ({X}) ({Y}) {R} b-{run} o-{run} m-{run} {par(l)} {par(len_)} room-{run} ({cal.name}-says {A}) (λ ν δ. {N} 𝓤 H A mem run .pre {to}) ({cal.name}-vals {A}) (λ ν δ w. {N} 𝓤 H A mem run .post {to} w)")
             c.say(f"(goes-{cal.name} {A}" + "".join(" " + g for g in goes) + f") {met} (gets-{cal.name} {A} {par(len_)})")
             c.say(f"(λ ν δ. {os}) (λ w{i} r{i} zs{i} len{i} is{i}.")
@@ -379,26 +408,82 @@ class Walk:
         if res == "unit":
             m, tv = None, "(tt, tt)"
         elif res in NUM:
-            m = Num(f"r{i}", f"is{i} .1 .0", NUM[res][1])
+            m = Num(rr, f"{ii} .1 .0", NUM[res][1])
             tv = self.typed(m, d)
         elif res == "bool":
-            m = Bool(f"r{i}")
+            m = Bool(rr)
             tv = "(tt, tt)"
         elif res.startswith("array "):
             elem, count = res.split(" ")[1:]
-            m = Arr(elem, "w" + elem[1:], count, f"r{i}", f"w{i}", f"is{i} .0")
+            m = Arr(elem, "w" + elem[1:], count, rr, f"w{i}", f"{ii} .0")
             word = "land-last" if last else "land"
             c.say(f"{word} ! (from ! (stop !)) {self.write(d, self.typed(m, d))} $")
             self.state[d] = m
             return i
         else:
-            m = Val(self.types[res], f"r{i}", f"is{i} .1 .0")
+            m = Val(self.types[res], rr, f"{ii} .1 .0")
             tv = self.typed(m, d)
         word = "land-last" if last else "land"
-        c.say(f"{word} ! (from ! (stop !)) {self.write(d, f'(typed-as ({self.ty(d)}) w{i} (is{i} .0) {tv})')} $")
-        c.say(f"rewrite ! {self.pos(d)} (λ (z : Val). ‵ (fat fullShare ({self.ty(d)}) {self.L[d]} 0 z)) (is{i} .0) refl $")
+        c.say(f"{word} ! (from ! (stop !)) {self.write(d, f'(typed-as ({self.ty(d)}) w{i} ({ii} .0) {tv})')} $")
+        c.say(f"rewrite ! {self.pos(d)} (λ (z : Val). ‵ (fat fullShare ({self.ty(d)}) {self.L[d]} 0 z)) ({ii} .0) refl $")
         self.state[d] = m if m else "unit"
         return i
+
+    # ---- a call that is lent several slices
+    def at(self, a, x):
+        """where a slice lies, and how many places it has"""
+        if a in self.own:
+            return {"b": self.L[self.own[a][0]], "o": "0", "m": self.own[a][1].n}[x]
+        return f"{x}-{a}"
+
+    def lend(self, cal, names, acc):
+        """each slice goes out under a lifetime of its own, and what is handed over becomes one formula"""
+        c = self.c
+        for p, a in names.items():
+            R = cal.rowOf(cal.elem(p))
+            if a in self.own:
+                j, m = self.own[a]
+                t = self.types[m.elem]
+                c.put(f"own {a}", f"owned ! (Array {R} {m.n}) (Is (Array {R} {m.n})) (array-makes 𝓤 H A W {R} {t.makes()} {m.n}) {m.expr} ({m.val} ∷ []) {par(m.is_)} $")
+                c.move(f"L{j}", f"own {a}")
+                c.say(f"local-out ! tt {R} tt {m.n} (lit< tt, lit< tt) {m.expr} {self.L[j]} {m.val} (λ ν-{a} δ-{a} len-{a}.")
+                self.lists[a] = (m.expr, f"len-{a}")
+            else:
+                l, len_ = self.lists[a]
+                c.move(f"S {a}", f"K {a}")
+                c.say(f"slice-out ! tt {R} b-{a} o-{a} m-{a} {par(l)} {par(len_)} (λ ν-{a} δ-{a}.")
+            self.close += 1
+            c.items[0:2] = [f"ν {a}", f"out {a}", f"kept {a}"]
+        for a in reversed(names.values()):
+            for x in (f"out {a}", f"ν {a}"):
+                c.move(x, acc)
+                c.join("sent")
+                acc = "sent"
+
+    def unlend(self, cal, names, x, got):
+        """what comes back: each slice at its last list"""
+        c = self.c
+        cur = "Y"
+        for p, a in names.items():
+            for y in (f"ν {a}", f"last {a}"):
+                c.move(cur)
+                c.split([y, cur])
+        for n, (p, a) in enumerate(names.items()):
+            R = cal.rowOf(cal.elem(p))
+            c.move(f"ν {a}", f"last {a}", f"kept {a}")
+            zs = cal.last(x, p)
+            if a in self.own:
+                j, m = self.own[a]
+                c.say(f"local-in ! tt {R} {m.n} ({zs}) {self.L[j]} (λ v-{a} _.")
+                self.close += 1
+                c.items[0:3] = [f"L{j}", f"own {a}"]
+                c.drop(f"own {a}")
+            else:
+                l, len_ = self.lists[a]
+                now = f"{got} .0" + " .1" * n + (" .0" if n < len(names) - 1 else "")
+                c.say(f"slice-in ! tt {R} b-{a} o-{a} m-{a} {par(l)} {par(len_)} room-{a} ({zs}) ({now}) $")
+                c.items[0:3] = [f"S {a}", f"K {a}"]
+                self.lists[a] = (zs, now)
 
     def elem_of(self, a):
         return self.elem(a)

@@ -67,10 +67,16 @@ pub fn joined_at(
     requires { ⌜ Fit (joined join (getD (run (now loads) (now times) (now words)) i blank) (getD (run (now loads) (now times) (now words)) j blank)) ⌝ }
     ensures { λ _. ⌜ run (now (loads .exit)) (now (times .exit)) (now (words .exit)) ≡ set (run (now (loads .entry)) (now (times .entry)) (now (words .entry))) o (joined join (getD (run (now (loads .entry)) (now (times .entry)) (now (words .entry))) i blank) (getD (run (now (loads .entry)) (now (times .entry)) (now (words .entry))) j blank)) ⌝ }
 {
-    let load = units::together(Femtofarad(loads[i]), Femtofarad(loads[j]));
     let first = times[i];
     let second = times[j];
-    let t = units::earlier(Femtosecond(first), Femtosecond(second));
+    let pair = pairs::joined(
+        Femtofarad(loads[i]),
+        Femtosecond(first),
+        Femtofarad(loads[j]),
+        Femtosecond(second),
+    );
+    let load = pair.load;
+    let t = pair.time;
     let shown = load.0;
     let time = t.0;
     loads[o] = shown;

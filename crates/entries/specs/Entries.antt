@@ -7,11 +7,11 @@ use lib.ListN.{getD}
 use Rattle.rules.specs.declared.Checking.{Checking}
 use Rattle.rules.specs.Entries.{Entry}
 use Rattle.rules.specs.Tables.{rowBy}
-use Rattle.entries.specs.declared.Repeater.{Repeater}
-use Rattle.entries.specs.declared.Wire.{Wire}
-use Rattle.entries.specs.declared.Passed.{Passed}
+use Rattle.checks.specs.declared.Repeater.{Repeater}
+use Rattle.checks.specs.declared.Wire.{Wire}
+use Rattle.checks.specs.declared.Passed.{Passed}
 use Rattle.entries.specs.Lines.{repeaterOf, lineFor}
-use Rattle.entries.specs.Checks.{checkOf, placeAt}
+use Rattle.checks.specs.Checks.{checkOf, placeAt}
 
 -- type i, from its three words
 unfoldable pub typeAt : (types : List ℕ) → ℕ → Repeater

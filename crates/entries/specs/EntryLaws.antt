@@ -15,9 +15,9 @@ use Rattle.rules.specs.Entries.{Entry, driver, point, sink, malformed}
 use Rattle.rules.specs.Tables.{isZero, rowBy}
 use Rattle.text.specs.Stretches.{absurd}
 use Rattle.text.specs.Numbers.{bits-back}
-use Rattle.entries.specs.declared.Passed.{Passed}
+use Rattle.checks.specs.declared.Passed.{Passed}
 use Rattle.entries.specs.Lines.{lineFor}
-use Rattle.entries.specs.Checks.{checkOf, placeAt}
+use Rattle.checks.specs.Checks.{checkOf, placeAt}
 
 -- a time that is zero, by its bits
 pub bits-zero : (z : ℤ) → mag z < 2 ^ 63 → ofZ w64 z ≡ 0 → z ≡ pos 0

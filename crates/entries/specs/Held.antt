@@ -7,13 +7,13 @@ use lib.IntN.{ℤ, pos, negsuc}
 use lib.ListN.{length, take}
 use Rattle.rules.specs.Entries.{Entry, typesOf, rowsOf, sitesOf, siteCount}
 use Rattle.rules.specs.Promises.{typeTable, rowTable, dueTable}
-use Rattle.entries.specs.declared.Repeater.{Repeater}
-use Rattle.entries.specs.declared.Wire.{Wire}
-use Rattle.entries.specs.declared.Passed.{Passed}
-use Rattle.entries.specs.declared.Line.{Line}
-use Rattle.entries.specs.declared.Line.the-variants.{Repeater as TypeLine, Driver as DriverLine, Point as PointLine, Sink as SinkLine, Refused as RefusedLine}
+use Rattle.checks.specs.declared.Repeater.{Repeater}
+use Rattle.checks.specs.declared.Wire.{Wire}
+use Rattle.checks.specs.declared.Passed.{Passed}
+use Rattle.checks.specs.declared.Line.{Line}
+use Rattle.checks.specs.declared.Line.the-variants.{Repeater as TypeLine, Driver as DriverLine, Point as PointLine, Sink as SinkLine, Refused as RefusedLine}
 use Rattle.entries.specs.Lines.{wireOf}
-use Rattle.entries.specs.Checks.{FewPassed}
+use Rattle.checks.specs.Checks.{FewPassed}
 
 -- the areas hold the entries that have passed, and nothing else was counted
 pub record Holds (before : List Entry) (types rows : List ℕ) (due : List ℤ) (n : Passed) : Type 0 where

@@ -17,11 +17,11 @@ use Rattle.rules.specs.declared.Pin.{Pin}
 use Rattle.rules.specs.declared.Refusal.{Refusal}
 use Rattle.text.specs.Stretches.{absurd}
 use Rattle.text.specs.Numbers.{bits-back}
-use Rattle.entries.specs.declared.Repeater.{Repeater}
-use Rattle.entries.specs.declared.Wire.{Wire}
-use Rattle.entries.specs.declared.Passed.{Passed}
-use Rattle.entries.specs.declared.Line.{Line}
-use Rattle.entries.specs.declared.Line.the-variants.{Repeater as TypeLine, Driver as DriverLine, Point as PointLine, Sink as SinkLine, Refused as RefusedLine}
+use Rattle.checks.specs.declared.Repeater.{Repeater}
+use Rattle.checks.specs.declared.Wire.{Wire}
+use Rattle.checks.specs.declared.Passed.{Passed}
+use Rattle.checks.specs.declared.Line.{Line}
+use Rattle.checks.specs.declared.Line.the-variants.{Repeater as TypeLine, Driver as DriverLine, Point as PointLine, Sink as SinkLine, Refused as RefusedLine}
 use Rattle.entries.specs.Lines.{wireOf, pinOf}
 use Rattle.entries.specs.Held.{ownWord, wordsOfType, wordsOfRow, Roomy, Grown}
 

@@ -1,5 +1,4 @@
 pub mod Lines
-pub mod Checks
 pub mod Entries
 pub mod Held
 pub mod Words

@@ -10,10 +10,10 @@ use Rattle.rules.specs.declared.Refusal.the-variants.{Form, Room}
 use Rattle.rules.specs.Entries.{Entry, type, driver, point, sink, malformed, beyond}
 use Rattle.text.specs.Stretches.{absurd}
 use Rattle.text.specs.Numbers.{cappedTime}
-use Rattle.entries.specs.declared.Repeater.{Repeater}
-use Rattle.entries.specs.declared.Wire.{Wire}
-use Rattle.entries.specs.declared.Line.{Line}
-use Rattle.entries.specs.declared.Line.the-variants.{Repeater as TypeLine, Driver as DriverLine, Point as PointLine, Sink as SinkLine, Refused as RefusedLine}
+use Rattle.checks.specs.declared.Repeater.{Repeater}
+use Rattle.checks.specs.declared.Wire.{Wire}
+use Rattle.checks.specs.declared.Line.{Line}
+use Rattle.checks.specs.declared.Line.the-variants.{Repeater as TypeLine, Driver as DriverLine, Point as PointLine, Sink as SinkLine, Refused as RefusedLine}
 
 -- a word, cut above every range
 abbrev pub word : ℕ → ℕ

@@ -13,12 +13,12 @@ use Rattle.rules.specs.declared.Checking.the-variants.{Accepted}
 use Rattle.rules.specs.Entries.{malformed}
 use Rattle.rules.specs.Tables.{isZero, rowBy, rowEntry, typeEntry}
 use Rattle.text.specs.Stretches.{either, absurd}
-use Rattle.entries.specs.declared.Repeater.{Repeater}
-use Rattle.entries.specs.declared.Passed.{Passed}
-use Rattle.entries.specs.declared.Line.{Line}
-use Rattle.entries.specs.declared.Line.the-variants.{Repeater as TypeLine}
+use Rattle.checks.specs.declared.Repeater.{Repeater}
+use Rattle.checks.specs.declared.Passed.{Passed}
+use Rattle.checks.specs.declared.Line.{Line}
+use Rattle.checks.specs.declared.Line.the-variants.{Repeater as TypeLine}
 use Rattle.entries.specs.Lines.{repeaterOf, wireOf, pinOf, lineFor}
-use Rattle.entries.specs.Checks.{checkOf, placeAt}
+use Rattle.checks.specs.Checks.{checkOf, placeAt}
 use Rattle.entries.specs.Held.{Grown, withRow, countedWith, rowWordsOf, dueTimesOf, typeWordsOf}
 use Rattle.entries.specs.Entries.{typeAt, rowEntryOf, rowCheck}
 use Rattle.entries.specs.EntryLaws.{driver-parent, driver-capacitance, driver-site, driver-pin, driver-time, point-pin, point-time, other-row}

@@ -1,10 +1,10 @@
 // Areas of words: an entry stored behind those that have passed.
-use super::Line;
-use super::Passed;
-use super::ROW_WORDS;
-use super::Repeater;
-use super::TYPE_WORDS;
-use super::Wire;
+use checks::Line;
+use checks::Passed;
+use checks::ROW_WORDS;
+use checks::Repeater;
+use checks::TYPE_WORDS;
+use checks::Wire;
 use rules::Femtofarad;
 use rules::Femtosecond;
 use rules::Ohm;

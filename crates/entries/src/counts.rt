@@ -1,9 +1,9 @@
 // How many have passed, with one more.
-use super::Line;
-use super::Passed;
+use checks::Line;
+use checks::Passed;
 ghost use mathlib.Core.Path.{_≡_};
 ghost use Rattle.entries.specs.Held.{withRow, countedWith};
-ghost use Rattle.entries.specs.Checks.{FewPassed};
+ghost use Rattle.checks.specs.Checks.{FewPassed};
 
 // With a row, by its site word.
 pub fn with_row(n: Passed, site: u32) -> Passed

@@ -1,55 +1,7 @@
-// One entry by value: the line that states it, or the words of a table's row; its checks behind those that have passed; how it is
-// counted and stored.
-use rules::Femtofarad;
-use rules::Femtosecond;
-use rules::Ohm;
-use rules::Pin;
-use rules::Refusal;
+// The entries in their areas: how one is counted and stored behind those that have passed, the words of a table's entry, and areas
+// copied.
 
 pub mod areas;
-pub mod checks;
 pub mod copies;
 pub mod counts;
-mod ranges;
 pub mod words;
-
-// Words of a type and of a row in the tables.
-pub const TYPE_WORDS: usize = 3;
-
-pub const ROW_WORDS: usize = 6;
-
-// Room: types and rows.
-pub const TYPES_ROOM: usize = 4;
-
-pub const ROWS_ROOM: usize = 256;
-
-// A type of repeater.
-pub struct Repeater {
-    pub input: Femtofarad,
-    pub resistance: Ohm,
-    pub own: Femtosecond,
-}
-
-// The wire of a row: the row above it, and what is there. The site is still a field's number.
-pub struct Wire {
-    pub parent: u32,
-    pub resistance: Ohm,
-    pub capacitance: Femtofarad,
-    pub site: u32,
-}
-
-// What a line states, or the refusal of its form.
-pub enum Line {
-    Repeater(Repeater),
-    Driver(Ohm),
-    Point(Wire),
-    Sink(Wire, Pin),
-    Refused(Refusal),
-}
-
-// How many types, rows and sites have passed.
-pub struct Passed {
-    pub types: usize,
-    pub rows: usize,
-    pub sites: usize,
-}

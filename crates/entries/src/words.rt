@@ -1,14 +1,14 @@
 // The entries of a table by their words: a type by value, and the check of a row.
-use super::Passed;
-use super::ROW_WORDS;
-use super::Repeater;
-use super::TYPE_WORDS;
-use super::Wire;
-use super::checks::check_driver;
-use super::checks::check_row;
-use super::checks::place_of;
-use super::ranges::sink_out;
-use super::ranges::wire_out;
+use checks::Passed;
+use checks::ROW_WORDS;
+use checks::Repeater;
+use checks::TYPE_WORDS;
+use checks::Wire;
+use checks::lines::check_driver;
+use checks::lines::check_row;
+use checks::lines::place_of;
+use checks::ranges::sink_out;
+use checks::ranges::wire_out;
 use rules::Checking;
 use rules::Femtofarad;
 use rules::Femtosecond;
@@ -18,7 +18,7 @@ use rules::Refusal;
 ghost use mathlib.Core.Path.{_≡_};
 ghost use Prim.Native.Nat.{_+_, _*_, _≤_, _<_};
 ghost use lib.ListN.{length, getD};
-ghost use Rattle.entries.specs.Checks.{FewPassed};
+ghost use Rattle.checks.specs.Checks.{FewPassed};
 ghost use Rattle.entries.specs.Lines.{repeaterOf, wireOf};
 ghost use Rattle.entries.specs.Entries.{typeAt, wordsCheck, DriverChecked, rowCheck};
 

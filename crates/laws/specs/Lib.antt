@@ -27,9 +27,4 @@ pub mod Listing
 pub mod Figures
 pub mod Settled
 pub mod Words
-pub mod Examples
-pub mod Given
-pub mod Kept
-pub mod StandIns
-pub mod StandInLists
 pub mod Checked

@@ -17,10 +17,10 @@ use Rattle.rules.specs.Tables.{Tables, Counts, shortTables, tableEntries}
 use Rattle.rules.specs.Refusals.{refusalOf, firstRefusal}
 use Rattle.rules.specs.Answers.{refused, done, checkFigures}
 use Rattle.rules.specs.Promises.{Settled, tablesRefusal, CheckPromise}
-use Rattle.entries.specs.declared.Passed.{Passed}
-use Rattle.net.specs.declared.Taking.{Taking}
-use Rattle.net.specs.declared.Taking.the-variants.{Taken, Refused}
-use Rattle.entries.specs.Checks.{checking, FewPassed}
+use Rattle.checks.specs.declared.Passed.{Passed}
+use Rattle.ending.specs.declared.Taking.{Taking}
+use Rattle.ending.specs.declared.Taking.the-variants.{Taken, Refused}
+use Rattle.checks.specs.Checks.{checking, FewPassed}
 use Rattle.entries.specs.Held.{Holds}
 use Rattle.net.specs.Steps.{AllBehind}
 use Rattle.net.specs.TableSteps.{tablesOf, countsOf, typeEntries, rowEntries, Through, FewTaken, TypesTaken, RowsTaken}

@@ -15,7 +15,7 @@ use Rattle.rules.specs.Refusals.{some?, misplaced, outOfRange, tooMany, orphan,
 use Rattle.text.specs.Stretches.{either, absurd}
 use Rattle.text.specs.Numbers.{cap, cappedTime}
 use Rattle.entries.specs.Lines.{word, capped}
-use Rattle.entries.specs.Checks.{firstOf}
+use Rattle.checks.specs.Checks.{firstOf}
 use Rattle.net.specs.Passing.{line-refusal-is}
 
 -- ---- tests

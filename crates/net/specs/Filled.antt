@@ -23,10 +23,10 @@ use Rattle.rules.specs.Tables.{Tables, shortTables}
 use Rattle.rules.specs.Refusals.{refusalOf, firstRefusal}
 use Rattle.rules.specs.Answers.{refused, done, noCounts, readFigures}
 use Rattle.rules.specs.Promises.{Settled, typeTable, rowTable, dueTable, filled, readRefusal, ReadPromise}
-use Rattle.entries.specs.declared.Passed.{Passed}
-use Rattle.net.specs.declared.Taking.{Taking}
-use Rattle.net.specs.declared.Taking.the-variants.{Taken, Refused}
-use Rattle.entries.specs.Checks.{FewPassed}
+use Rattle.checks.specs.declared.Passed.{Passed}
+use Rattle.ending.specs.declared.Taking.{Taking}
+use Rattle.ending.specs.declared.Taking.the-variants.{Taken, Refused}
+use Rattle.checks.specs.Checks.{FewPassed}
 use Rattle.entries.specs.Held.{Holds}
 use Rattle.net.specs.Steps.{Rooms, AllTaken}
 use Rattle.net.specs.TableSteps.{tablesOf}

@@ -19,12 +19,12 @@ use Rattle.rules.specs.Entries.{Entry, Repeater, type, driver, point, sink, mal
 use Rattle.rules.specs.Refusals.{wireOut, misplaced, outOfRange, tooMany, lineRefusal}
 use Rattle.rules.specs.Promises.{typeTable, rowTable, dueTable, dueOf}
 use Rattle.text.specs.Stretches.{either, absurd}
-use Rattle.entries.specs.declared.Repeater.{Repeater as Rep}
-use Rattle.entries.specs.declared.Passed.{Passed}
-use Rattle.entries.specs.declared.Line.{Line}
-use Rattle.entries.specs.declared.Line.the-variants.{Repeater as TypeLine, Driver as DriverLine, Point as PointLine, Sink as SinkLine, Refused as RefusedLine}
+use Rattle.checks.specs.declared.Repeater.{Repeater as Rep}
+use Rattle.checks.specs.declared.Passed.{Passed}
+use Rattle.checks.specs.declared.Line.{Line}
+use Rattle.checks.specs.declared.Line.the-variants.{Repeater as TypeLine, Driver as DriverLine, Point as PointLine, Sink as SinkLine, Refused as RefusedLine}
 use Rattle.entries.specs.Lines.{repeaterOf, wireOf, pinOf, lineFor}
-use Rattle.entries.specs.Checks.{checking, firstOf, checkOf, placeAt, typeOut, wireOutOf, pinOut, FewPassed, manyRows, noParentIn}
+use Rattle.checks.specs.Checks.{checking, firstOf, checkOf, placeAt, typeOut, wireOutOf, pinOut, FewPassed, manyRows, noParentIn}
 use Rattle.entries.specs.Held.{Holds, Grown, Roomy, withType, withRow, countedWith, ownWord}
 use Rattle.net.specs.Passing.{NoneOf, none-of, accepted-none, not-refused, check-same}
 use Rattle.net.specs.Cut.{or-left, or-right, wire-in}

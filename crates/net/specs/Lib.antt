@@ -1,12 +1,10 @@
 pub mod LineLaws
-pub mod Below
 pub mod Steps
 pub mod TableSteps
 pub mod Passing
 pub mod Cut
 pub mod HoldLaws
 pub mod Taking
-pub mod BelowLaws
 pub mod ReadLaws
 pub mod Filled
 pub mod TableLaws

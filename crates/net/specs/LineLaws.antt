@@ -22,10 +22,10 @@ use Rattle.text.specs.declared.SignedField.the-variants.{Number as Time, Bad as
 use Rattle.text.specs.Stretches.{tab, absurd}
 use Rattle.text.specs.Numbers.{cap, cappedTime, fieldOf, timeOf, number-empty, signed-empty, mag-minus, bits-back}
 use Rattle.text.specs.Fields.{fieldAt, nextAt, fieldsFrom, NumberAt, TimeAt, field-read, fields-start, fields-some, fields-end, fields-over}
-use Rattle.entries.specs.declared.Repeater.{Repeater}
-use Rattle.entries.specs.declared.Wire.{Wire}
-use Rattle.entries.specs.declared.Line.{Line}
-use Rattle.entries.specs.declared.Line.the-variants.{Repeater as TypeLine, Driver as DriverLine, Point as PointLine, Sink as SinkLine, Refused as RefusedLine}
+use Rattle.checks.specs.declared.Repeater.{Repeater}
+use Rattle.checks.specs.declared.Wire.{Wire}
+use Rattle.checks.specs.declared.Line.{Line}
+use Rattle.checks.specs.declared.Line.the-variants.{Repeater as TypeLine, Driver as DriverLine, Point as PointLine, Sink as SinkLine, Refused as RefusedLine}
 use Rattle.entries.specs.Lines.{word, repeaterOf, wireOf, pinOf, capped, lineFor, letterOf}
 
 -- ---- one field

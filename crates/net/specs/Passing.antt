@@ -10,20 +10,19 @@ use lib.IntN.{ℤ}
 use lib.ListN.{length, take}
 use lib.Seq.{getD-take}
 use borrow.Author.Tests.{lt-ltb, le-ltb, ne-eqb, ltb-true}
-use Rattle.rules.specs.declared.Kind.{Kind}
-use Rattle.rules.specs.declared.Kind.the-variants.{Driver, Point, Sink}
 use Rattle.rules.specs.declared.Row.{Row}
 use Rattle.rules.specs.declared.Refusal.{Refusal}
 use Rattle.rules.specs.declared.Checking.the-variants.{Accepted}
 use Rattle.rules.specs.declared.Checking.the-variants.{Refused as NotAccepted}
 use Rattle.rules.specs.Entries.{Entry, type, driver, point, sink, malformed, beyond, rowsOf, sitesOf}
-use Rattle.rules.specs.Refusals.{some?, isSink, misplaced, outOfRange, tooMany, orphan, noParent, lineRefusal, firstRefusal}
-use Rattle.rules.specs.Promises.{rowTable, kindWord}
+use Rattle.rules.specs.Refusals.{some?, misplaced, outOfRange, tooMany, orphan, noParent, lineRefusal, firstRefusal}
+use Rattle.rules.specs.Promises.{rowTable}
 use Rattle.text.specs.Stretches.{either, absurd}
-use Rattle.entries.specs.declared.Passed.{Passed}
+use Rattle.checks.specs.declared.Passed.{Passed}
 use Rattle.entries.specs.Lines.{repeaterOf, wireOf, pinOf, lineFor}
-use Rattle.entries.specs.Checks.{checking, firstOf, noParentIn, placeAt, checkOf}
+use Rattle.checks.specs.Checks.{checking, firstOf, noParentIn, placeAt, checkOf}
 use Rattle.entries.specs.Held.{Holds}
+use Rattle.ending.specs.BelowLaws.{sink-word, word-behind}
 
 -- ---- refused or accepted
 pub accepted-none : (o : Option Refusal) → checking o ≡ Accepted → o ≡ none
@@ -67,14 +66,6 @@ no-rows [] k e = rw (← e)
 no-rows (x ∷ l) k e = ne-eqb k 0 (λ z. omega arith)
 
 -- ---- the parent, by the words of the rows
-pub sink-word : (kind : Kind) → isSink kind ≡ eqb (kindWord kind) 2
-sink-word Driver = refl
-sink-word Point = refl
-sink-word (Sink pin) = refl
-
-pub word-behind : (p : ℕ) → 6 * suc p ≡ suc (suc (suc (suc (suc (suc (6 * p))))))
-word-behind p = omega arith
-
 no-parent-words : (rows : List Row) (p : ℕ) → noParent rows p ≡ noParentIn (rowTable rows) (length rows) p
 unfolding noParent rowTable
 no-parent-words [] p = rw (le-ltb p 0 (omega arith))

@@ -17,12 +17,12 @@ use Rattle.rules.specs.Text.{parted, lineOf, linesOf, textEntries}
 use Rattle.rules.specs.Refusals.{lineRefusal, lastRefusal, firstRefusal, misplaced}
 use Rattle.rules.specs.Promises.{typeTable, rowTable, dueTable, Settled}
 use Rattle.text.specs.Stretches.{tab, lineFeed, lead, stretch, lead-le, either, absurd, parted-last, parted-more}
-use Rattle.entries.specs.declared.Passed.{Passed}
-use Rattle.net.specs.declared.Taking.{Taking}
-use Rattle.net.specs.declared.Taking.the-variants.{Taken, Refused}
-use Rattle.entries.specs.Checks.{placeAt}
+use Rattle.checks.specs.declared.Passed.{Passed}
+use Rattle.ending.specs.declared.Taking.{Taking}
+use Rattle.ending.specs.declared.Taking.the-variants.{Taken, Refused}
+use Rattle.checks.specs.Checks.{placeAt}
 use Rattle.entries.specs.Held.{Holds}
-use Rattle.net.specs.Below.{Finished}
+use Rattle.ending.specs.Below.{Finished}
 use Rattle.net.specs.Steps.{EntryTaken, LineTaken, AllBehind, linesFrom, Reaches}
 use Rattle.net.specs.Passing.{first-refused, first-passed}
 

@@ -10,9 +10,9 @@ use Rattle.rules.specs.Entries.{Entry}
 use Rattle.rules.specs.Text.{parted, lineOf, linesOf, textEntries}
 use Rattle.rules.specs.Refusals.{lineRefusal, firstRefusal}
 use Rattle.text.specs.Stretches.{tab, lineFeed}
-use Rattle.entries.specs.declared.Passed.{Passed}
-use Rattle.net.specs.declared.Taking.{Taking}
-use Rattle.net.specs.declared.Taking.the-variants.{Taken, Refused}
+use Rattle.checks.specs.declared.Passed.{Passed}
+use Rattle.ending.specs.declared.Taking.{Taking}
+use Rattle.ending.specs.declared.Taking.the-variants.{Taken, Refused}
 use Rattle.entries.specs.Held.{Holds}
 
 -- the areas have their room

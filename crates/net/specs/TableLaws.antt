@@ -16,13 +16,13 @@ use Rattle.rules.specs.declared.Checking.the-variants.{Refused as NotAccepted}
 use Rattle.rules.specs.Entries.{Entry, beyond}
 use Rattle.rules.specs.Tables.{Tables, from, counted}
 use Rattle.rules.specs.Refusals.{lineRefusal, lastRefusal, firstRefusal, misplaced, outOfRange, tooMany}
-use Rattle.entries.specs.declared.Passed.{Passed}
-use Rattle.net.specs.declared.Taking.{Taking}
-use Rattle.entries.specs.declared.Line.{Line}
+use Rattle.checks.specs.declared.Passed.{Passed}
+use Rattle.ending.specs.declared.Taking.{Taking}
+use Rattle.checks.specs.declared.Line.{Line}
 use Rattle.entries.specs.Lines.{lineFor}
-use Rattle.entries.specs.Checks.{checkOf, placeAt}
+use Rattle.checks.specs.Checks.{checkOf, placeAt}
 use Rattle.entries.specs.Held.{Holds, Grown, countedWith}
-use Rattle.net.specs.Below.{Finished}
+use Rattle.ending.specs.Below.{Finished}
 use Rattle.net.specs.Steps.{AllBehind}
 use Rattle.net.specs.TableSteps.{Through}
 use Rattle.net.specs.ReadLaws.{all-passed, last-is}

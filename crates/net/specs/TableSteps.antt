@@ -8,11 +8,11 @@ use Rattle.rules.specs.Entries.{Entry}
 use Rattle.rules.specs.Tables.{Tables, typeEntry, rowEntry, counted}
 use Rattle.rules.specs.Refusals.{firstRefusal}
 pub use Rattle.laws.specs.Checked.{tablesOf, countsOf}
-pub use Rattle.entries.specs.Checks.{checking}
-use Rattle.entries.specs.declared.Passed.{Passed}
-use Rattle.net.specs.declared.Taking.{Taking}
-use Rattle.net.specs.declared.Taking.the-variants.{Taken, Refused}
-use Rattle.entries.specs.Checks.{FewPassed}
+pub use Rattle.checks.specs.Checks.{checking}
+use Rattle.checks.specs.declared.Passed.{Passed}
+use Rattle.ending.specs.declared.Taking.{Taking}
+use Rattle.ending.specs.declared.Taking.the-variants.{Taken, Refused}
+use Rattle.checks.specs.Checks.{FewPassed}
 use Rattle.entries.specs.Held.{Holds}
 use Rattle.net.specs.Steps.{AllBehind}
 

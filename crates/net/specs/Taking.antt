@@ -12,10 +12,10 @@ use Rattle.rules.specs.declared.Checking.the-variants.{Accepted}
 use Rattle.rules.specs.declared.Checking.the-variants.{Refused as NotAccepted}
 use Rattle.rules.specs.Entries.{Entry}
 use Rattle.rules.specs.Refusals.{lineRefusal}
-use Rattle.entries.specs.declared.Passed.{Passed}
-use Rattle.entries.specs.declared.Line.{Line}
+use Rattle.checks.specs.declared.Passed.{Passed}
+use Rattle.checks.specs.declared.Line.{Line}
 use Rattle.entries.specs.Lines.{capped, lineFor}
-use Rattle.entries.specs.Checks.{checking, checkOf, placeAt, FewPassed}
+use Rattle.checks.specs.Checks.{checking, checkOf, placeAt, FewPassed}
 use Rattle.entries.specs.Held.{Holds, Grown, Roomy, countedWith}
 use Rattle.net.specs.Passing.{accepted-none, refused-some, not-refused, check-same}
 use Rattle.net.specs.Cut.{cut-in, cut-refusal}

@@ -1,10 +1,9 @@
 // A net read from text, and a net given as tables. Both go entry by entry: a line of the text, or the words of a table's entry, is
 // checked behind what has passed, and counted.
-use entries::Passed;
-use entries::ROW_WORDS;
-use entries::ROWS_ROOM;
-use entries::TYPE_WORDS;
-use entries::TYPES_ROOM;
+use checks::ROW_WORDS;
+use checks::ROWS_ROOM;
+use checks::TYPE_WORDS;
+use checks::TYPES_ROOM;
 use reads::read_into;
 use rules::Checking;
 use rules::Reading;
@@ -14,20 +13,13 @@ ghost use mathlib.Core.Path.{_≡_};
 ghost use mathlib.Core.Bool.{_||_};
 ghost use lib.Dec.{ltb};
 ghost use Rattle.rules.specs.Promises.{ReadPromise, CheckPromise, tablesRefusal};
-ghost use Rattle.entries.specs.Checks.{checking};
+ghost use Rattle.checks.specs.Checks.{checking};
 ghost use Rattle.net.specs.TableSteps.{tablesOf, countsOf};
 
-mod below;
 mod lines;
 mod reads;
 mod stated;
 mod tables;
-
-// What taking a line gives, or all lines: what has passed then, or the refusal.
-pub enum Taking {
-    Taken(Passed),
-    Refused(Refusal),
-}
 
 // Room: bytes of a text.
 const TEXT_ROOM: usize = 32_768;

@@ -3,7 +3,7 @@ use super::stated::pin_read;
 use super::stated::repeater_read;
 use super::stated::wire_read;
 use super::stated::word_of;
-use entries::Line;
+use checks::Line;
 use rules::Ohm;
 use rules::Refusal;
 use text::Field;

@@ -1,6 +1,6 @@
 // What the numbers of a line make: a type, a wire, a pin. A number too large for any range is cut to one that is still out of range.
-use entries::Repeater;
-use entries::Wire;
+use checks::Repeater;
+use checks::Wire;
 use entries::words::repeater;
 use rules::Femtofarad;
 use rules::Femtosecond;

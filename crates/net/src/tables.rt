@@ -1,13 +1,13 @@
 // A net given as tables, entry by entry.
-use super::Taking;
-use super::below::finish;
-use entries::Line;
-use entries::Passed;
-use entries::ROW_WORDS;
-use entries::ROWS_ROOM;
-use entries::TYPES_ROOM;
-use entries::checks::check_type;
-use entries::checks::place_of;
+use checks::Line;
+use checks::Passed;
+use checks::ROW_WORDS;
+use checks::ROWS_ROOM;
+use checks::TYPES_ROOM;
+use checks::lines::check_type;
+use checks::lines::place_of;
+use ending::Taking;
+use ending::finish;
 use entries::counts::passed_with;
 use entries::counts::with_row;
 use entries::words::check_row_at;
@@ -19,7 +19,7 @@ ghost use Prim.Native.Nat.{_≤_, min};
 ghost use lib.ListN.{length};
 ghost use Rattle.rules.specs.Tables.{tableEntries};
 ghost use Rattle.rules.specs.Refusals.{refusalOf};
-ghost use Rattle.entries.specs.Checks.{FewPassed, checking};
+ghost use Rattle.checks.specs.Checks.{FewPassed, checking};
 ghost use Rattle.net.specs.Steps.{Rooms};
 ghost use Rattle.net.specs.TableSteps.{tablesOf, countsOf, FewTaken, TypesTaken, RowsTaken};
 

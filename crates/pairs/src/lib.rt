@@ -7,6 +7,7 @@ ghost use mathlib.Core.Bool.{cond};
 ghost use Prim.Native.Nat.{_+_, _*_, _≤_, _<_};
 ghost use lib.Signed.{mag, ltZ};
 ghost use Rattle.rules.specs.Quantities.{_⊖_, mostOhms, mostOwn, mostLoad};
+ghost use Rattle.laws.specs.Integers.{minℤ};
 ghost use Rattle.pairs.specs.Reach.{near};
 ghost use Rattle.pairs.specs.Stands.{isBelow, isCovering, isCovered};
 
@@ -28,6 +29,26 @@ pub fn time_before_repeater(time: Femtosecond, own: u32, r: Ohm, load: Femtofara
     let d = units::time_of(own);
     let t = units::less(time, d);
     time_before(t, r, load)
+}
+
+// The load and the time of a candidate.
+pub struct Pair {
+    pub load: Femtofarad,
+    pub time: Femtosecond,
+}
+
+// Two candidates where branches meet: the earlier of their times, and their loads together.
+pub fn joined(load: Femtofarad, time: Femtosecond, other: Femtofarad, when: Femtosecond) -> Pair
+    requires { ⌜ load .0 + other .0 ≤ mostLoad ⌝ }
+    ensures time { λ r. ⌜ r .time .0 ≡ minℤ (time .0) (when .0) ⌝ }
+    ensures load { λ r. ⌜ r .load .0 ≡ load .0 + other .0 ⌝ }
+{
+    let both = units::together(load, other);
+    let least = units::earlier(time, when);
+    Pair {
+        load: both,
+        time: least,
+    }
 }
 
 // 1 if the second time is later than the first, or else 0: how much longer a list is with the second kept behind the first.

@@ -1,3 +1,1 @@
-pub mod Chosen
-pub mod Promised
 pub mod Refusing

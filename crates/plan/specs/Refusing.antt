@@ -17,7 +17,8 @@ use Rattle.rules.specs.Tables.{Tables, Counts}
 use Rattle.rules.specs.Answers.{planFigures, listFigures}
 use Rattle.rules.specs.Promises.{Columns, columns, Lent, shortLent, shortPlacement, tablesRefusal, listRefusal, PlanPromise, ListPromise}
 use Rattle.laws.specs.Checked.{Passed, passed-own, short-own}
-use Rattle.plan.specs.Chosen.{columnsOf, lentOf, shortBy, shortListBy}
+use Rattle.rooms.specs.Rooms.{shortBy, shortListBy}
+use Rattle.chosen.specs.Chosen.{columnsOf, lentOf}
 
 module _ (t : Tables) (n : Counts) (ls : List ℕ) (ts : List ℤ) (ws : List ℕ) where
   -- ---- plan_net

@@ -1,6 +1,4 @@
-pub mod JobCalls
-pub mod WalkCalls
-pub mod Local
 pub mod EntryCalls
 pub mod PlanCalls
+pub mod CopyCalls
 pub mod ListCalls

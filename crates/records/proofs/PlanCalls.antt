@@ -33,14 +33,11 @@ use denote.Triple.Statement.{Contract}
 use denote.Triple.Clauses.{ensured, lasts}
 use denote.Triple.Walked.{says}
 use Rattle.rules.specs.declared.Cand.{Cand}
-use Rattle.runs.specs.declared.turns.Pass.{Pass}
-use Rattle.records.specs.declared.jobs.Job.{Job}
 use Rattle.rules.proofs.Cand as T
 use Rattle.rules.proofs.Cand.Laws as T′
-use Rattle.runs.proofs.turns.Pass as P
-use Rattle.runs.proofs.turns.Pass.Laws as P′
-use Rattle.records.proofs.jobs.Job as J
-use Rattle.records.proofs.jobs.Job.Laws as J′
+use Rattle.turns.specs.declared.Pass.{Pass}
+use Rattle.turns.proofs.Pass as P
+use Rattle.turns.proofs.Pass.Laws as P′
 use Rattle.rules.specs.declared.Checking.{Checking}
 use Rattle.rules.specs.declared.Planning.{Planning}
 use Rattle.rules.proofs.Checking as Y
@@ -48,12 +45,11 @@ use Rattle.rules.proofs.Checking.Laws as Y′
 use Rattle.rules.proofs.Planning as Q
 use Rattle.rules.proofs.Planning.Laws as Q′
 use Rattle.runs.proofs.Lending.{at-list, Slice, Sent, Back}
-use Rattle.rules.specs.Quantities.{placementRoom}
-use Rattle.records.specs.Entries.{Verdict, isAccepted, refusedBy, Told}
+use Rattle.records.specs.Entries.{Verdict, isAccepted, PlansIf, ChoseIf, FourIf, ToldIf}
 use Rattle.records.proofs.judge as judge
 use Rattle.records.proofs.is_accepted as is-accepted
-use Rattle.records.proofs.refused_by as refused-by
-use Rattle.records.proofs.tell as tell
+use Rattle.records.proofs.plan_if as plan-if
+use Rattle.records.proofs.tell_if as tell-if
 
 module _ {M : Type 1} (𝓤 : URA M) (H : Heap 𝓤) (A : Atoms 𝓤) (mem : Memory → SProp 𝓤) (run : Routine → Fun 𝓤) where
   -- ---- `judge`
@@ -106,49 +102,46 @@ module _ {M : Type 1} (𝓤 : URA M) (H : Heap 𝓤) (A : Atoms 𝓤) (mem : Mem
     gets-is-accepted w =
         qed W (raw (IsAccepted .post (to-is-accepted) w) ∷ []) ∵ updating ! $ use1 W (later (some (λ (r : Bool). (‵ ftrue ⊛ ‵ (Boolean .own r (w ∷ []))) ⊛ raw (ensured 𝓤 H A is-accepted.ended (is-accepted.clauses 𝓤 H A mem run) tt (c, tt) tt r)))) (id⊢ 𝓤 _) $ await ! tt $ pick ! (λ r. split ! $ move ! (1 ∷ []) $ use1 W (raw (fact 𝓤 (r ≡ isAccepted c))) (says-of-is-accepted r) $ heard ! (r ≡ isAccepted c) (λ is. split ! $ move ! (1 ∷ []) $ feqL ! (λ g. at-once ! $ show ! (λ (r : Bool). guard 𝓤 (is-accepted-says r w) (sem 𝓤 H A (ftrue))) r $ check ! (ap only g, (tt, is)) $ keep ! (0 ∷ []) $ done !)))
 
-  -- ---- `refused_by`
-  abbrev pub RefusedBy : Contract 𝓤
-  RefusedBy = tripleOf 𝓤 H A refused-by.signature (refused-by.spec 𝓤 H A mem run)
+  -- ---- `plan_if`
+  abbrev pub PlanIf : Contract 𝓤
+  PlanIf = tripleOf 𝓤 H A plan-if.signature (plan-if.spec 𝓤 H A mem run)
 
-  module _ (W : Given 𝓤 H A) (c : Checking) where
-    abbrev pub to-refused-by : RefusedBy .Ghost
-    to-refused-by = ((tt, tt, tt, (c, tt), (EL.val Y.the-type Y′.the-laws c ∷ [], tt)), tt)
+  module _ (W : Given 𝓤 H A) (κ-rows : Lft) (q-rows : Share) (t-rows : RefT (List ℕ)) (κ-due : Lft) (q-due : Share) (t-due : RefT (List ℤ)) (κ-types : Lft) (q-types : Share) (t-types : RefT (List ℕ)) (b o m : ℕ) (l : List Cand) (count : ℕ) (n : ℕ) (c : Checking) where
+    abbrev pub to-plan-if : ℕ → GName → PlanIf .Ghost
+    to-plan-if ν δ = (((ν ∷ [], (κ-rows, (κ-due, (κ-types, tt)))), (fullShare, (q-rows, (q-due, (q-types, tt)))), tt, (at-list T.the-row b o δ l, (t-rows, (t-due, (t-types, (count, (n, (c, tt))))))), (sliceVal (b, o) m ∷ [], (sliceVal (t-rows .ptr) (length (t-rows .now)) ∷ [], (sliceVal (t-due .ptr) (length (t-due .now)) ∷ [], (sliceVal (t-types .ptr) (length (t-types .now)) ∷ [], (vint w64 count ∷ [], (vint w64 n ∷ [], (EL.val Y.the-type Y′.the-laws c ∷ [], tt)))))))), tt)
 
-    abbrev pub refused-by-vals : List Val
-    refused-by-vals = EL.val Y.the-type Y′.the-laws c ∷ []
+    abbrev pub plan-if-vals : List Val
+    plan-if-vals = sliceVal (b, o) m ∷ sliceVal (t-rows .ptr) (length (t-rows .now)) ∷ sliceVal (t-due .ptr) (length (t-due .now)) ∷ sliceVal (t-types .ptr) (length (t-types .now)) ∷ vint w64 count ∷ vint w64 n ∷ EL.val Y.the-type Y′.the-laws c ∷ []
 
-    abbrev pub refused-by-says : Planning → Val → Type 0
-    refused-by-says r w = (w ≡ EL.val Q.the-type Q′.the-laws r) × (Is Q.the-row r (EL.vals Q.the-type Q′.the-laws r) × (r ≡ refusedBy c))
+    abbrev pub plan-if-says : Pass → List Cand → Val → Type 0
+    plan-if-says r zs w = (w ≡ LL.val P.the-type P′.the-laws r) × (Is P.the-row r (LL.vals P.the-type P′.the-laws r) × (ChoseIf (t-rows .now) (t-due .now) (t-types .now) count n l zs c r))
 
-    pub goes-refused-by : Is Y.the-row c (EL.vals Y.the-type Y′.the-laws c) → ent 𝓤 (sem 𝓤 H A (ftrue)) (RefusedBy .pre (to-refused-by))
-    goes-refused-by c-is =
-        qed W (‵ (ftrue) ∷ []) ∵ nothing ! $ owned ! Y.the-row (Is Y.the-row) (EL.makes Y.the-type Y′.the-plain 𝓤 H A) c _ c-is $ fjoin ! $ move ! (1 ∷ 0 ∷ []) $ join ! $ frame ! $ done !
+    pub goes-plan-if : (PlansIf (t-rows .now) (t-due .now) (t-types .now) count n l c) → count < 2 ^ 64 → n < 2 ^ 64 → Is Y.the-row c (EL.vals Y.the-type Y′.the-laws c) → (ν : ℕ) (δ : GName) → ent 𝓤 (Sent T.the-row b o 𝓤 H A (fsep (flft κ-rows q-rows) (fsep (flft κ-due q-due) (fsep (flft κ-types q-types) (fsep (ShrSlice (named 0) κ-rows u32 .own t-rows (sliceVal (t-rows .ptr) (length (t-rows .now)) ∷ [])) (fsep (ShrSlice (named 0) κ-due i64 .own t-due (sliceVal (t-due .ptr) (length (t-due .now)) ∷ [])) (ShrSlice (named 0) κ-types u32 .own t-types (sliceVal (t-types .ptr) (length (t-types .now)) ∷ []))))))) m ν δ l) (PlanIf .pre (to-plan-if ν δ))
+    goes-plan-if within count-fits n-fits c-is ν δ =
+        qed W (‵ (flft (ν ∷ []) fullShare) ∷ ‵ (Slice T.the-row b o (ν ∷ []) m δ l) ∷ ‵ (fsep (flft κ-rows q-rows) (fsep (flft κ-due q-due) (fsep (flft κ-types q-types) (fsep (ShrSlice (named 0) κ-rows u32 .own t-rows (sliceVal (t-rows .ptr) (length (t-rows .now)) ∷ [])) (fsep (ShrSlice (named 0) κ-due i64 .own t-due (sliceVal (t-due .ptr) (length (t-due .now)) ∷ [])) (ShrSlice (named 0) κ-types u32 .own t-types (sliceVal (t-types .ptr) (length (t-types .now)) ∷ []))))))) ∷ []) ∵ says ! within $ move ! (2 ∷ []) $ fsplit ! $ move ! (1 ∷ []) $ fsplit ! $ move ! (1 ∷ []) $ fsplit ! $ move ! (1 ∷ []) $ fsplit ! $ move ! (1 ∷ []) $ fsplit ! $ nothing ! $ move ! (4 ∷ 0 ∷ []) $ join ! $ move ! (4 ∷ 0 ∷ []) $ join ! $ move ! (4 ∷ 0 ∷ []) $ join ! $ move ! (4 ∷ 0 ∷ []) $ join ! $ frame ! $ nothing ! $ owned ! Y.the-row (Is Y.the-row) (EL.makes Y.the-type Y′.the-plain 𝓤 H A) c _ c-is $ fjoin ! $ owned ! usize (Is usize) (uint-makes 𝓤 H A W w64) n _ (refl, n-fits) $ fjoin ! $ owned ! usize (Is usize) (uint-makes 𝓤 H A W w64) count _ (refl, count-fits) $ fjoin ! $ move ! (2 ∷ 0 ∷ []) $ fjoin ! $ move ! (1 ∷ 0 ∷ []) $ fjoin ! $ move ! (1 ∷ 0 ∷ []) $ fjoin ! $ move ! (1 ∷ 0 ∷ []) $ fjoin ! $ done !
 
-    says-of-refused-by : (r : Planning) → ent 𝓤 (ensured 𝓤 H A refused-by.ended (refused-by.clauses 𝓤 H A mem run) tt (c, tt) tt r) (fact 𝓤 (r ≡ refusedBy c))
-    says-of-refused-by r = exE 𝓤 _ (λ ws. snd∗ 𝓤 (sem 𝓤 H A (lasts refused-by.ended tt (c, tt) ws)) (fact 𝓤 (r ≡ refusedBy c)))
+    pub gets-plan-if : length l ≡ m → (ν : ℕ) (δ : GName) → (w : Val) → ent 𝓤 (PlanIf .post (to-plan-if ν δ) w) (H .⇛ (Back T.the-row b o 𝓤 H A (fsep (flft κ-rows q-rows) (fsep (flft κ-due q-due) (flft κ-types q-types))) m plan-if-says ν δ w))
+    gets-plan-if e ν δ w =
+        qed W (raw (PlanIf .post (to-plan-if ν δ) w) ∷ []) ∵ updating ! $ use1 W (later (some (λ (r : Pass). ((‵ (flft (ν ∷ []) fullShare) ⊛ (‵ (flft κ-rows q-rows) ⊛ (‵ (flft κ-due q-due) ⊛ (‵ (flft κ-types q-types) ⊛ ‵ ftrue)))) ⊛ ‵ (P.the-row .own r (w ∷ []))) ⊛ raw (ensured 𝓤 H A plan-if.ended (plan-if.clauses 𝓤 H A mem run) (ν ∷ [], (κ-rows, (κ-due, (κ-types, tt)))) (at-list T.the-row b o δ l, (t-rows, (t-due, (t-types, (count, (n, (c, tt))))))) tt r)))) (id⊢ 𝓤 _) $ await ! tt $ pick ! (λ r. split ! $ move ! (1 ∷ []) $ use1 W (some (λ (zs : (List Cand × (Unit {0} × (Unit {0} × (Unit {0} × (Unit {0} × (Unit {0} × (Unit {0} × Unit {0})))))))). ‵ (lasts plan-if.ended (ν ∷ [], (κ-rows, (κ-due, (κ-types, tt)))) (at-list T.the-row b o δ l, (t-rows, (t-due, (t-types, (count, (n, (c, tt))))))) zs) ⊛ raw (fact 𝓤 (ChoseIf (t-rows .now) (t-due .now) (t-types .now) count n l (zs .0) c r)))) (id⊢ 𝓤 _) $ pick ! (λ zs. split ! $ move ! (1 ∷ []) $ heard ! (ChoseIf (t-rows .now) (t-due .now) (t-types .now) count n l (zs .0) c r) (λ is. fsplit ! $ fsplit ! $ move ! (1 ∷ []) $ feqL ! (λ len. move ! (2 ∷ []) $ split ! $ move ! (1 ∷ []) $ facts ! P.the-row (Is P.the-row) (shows 𝓤 H A P.the-row) r (w ∷ []) (λ g. split ! $ move ! (1 ∷ []) $ split ! $ move ! (1 ∷ []) $ split ! $ move ! (1 ∷ []) $ split ! $ move ! (2 ∷ 0 ∷ []) $ fjoin ! $ move ! (2 ∷ 0 ∷ []) $ fjoin ! $ at-once ! $ show ! (λ (x : Pass × List Cand). guard 𝓤 ((length (x .1) ≡ m) × plan-if-says (x .0) (x .1) w) (sep 𝓤 (A .lft (ν ∷ []) fullShare) (sep 𝓤 (sem 𝓤 H A (finally T.the-row δ (x .1))) (sem 𝓤 H A (fsep (flft κ-rows q-rows) (fsep (flft κ-due q-due) (flft κ-types q-types))))))) (r, zs .0) $ check ! (len ∙ e, (ap only (LL.tells P.the-type P′.the-laws r _ g), (subst (Is P.the-row r) (LL.tells P.the-type P′.the-laws r _ g) g, is))) $ keep ! (2 ∷ 3 ∷ 0 ∷ []) $ done !)))))
 
-    pub gets-refused-by : (w : Val) → ent 𝓤 (RefusedBy .post (to-refused-by) w) (H .⇛ (ex 𝓤 (λ (r : Planning). guard 𝓤 (refused-by-says r w) (sem 𝓤 H A (ftrue)))))
-    gets-refused-by w =
-        qed W (raw (RefusedBy .post (to-refused-by) w) ∷ []) ∵ updating ! $ use1 W (later (some (λ (r : Planning). (‵ ftrue ⊛ ‵ (Q.the-row .own r (w ∷ []))) ⊛ raw (ensured 𝓤 H A refused-by.ended (refused-by.clauses 𝓤 H A mem run) tt (c, tt) tt r)))) (id⊢ 𝓤 _) $ await ! tt $ pick ! (λ r. split ! $ move ! (1 ∷ []) $ use1 W (raw (fact 𝓤 (r ≡ refusedBy c))) (says-of-refused-by r) $ heard ! (r ≡ refusedBy c) (λ is. split ! $ move ! (1 ∷ []) $ facts ! Q.the-row (Is Q.the-row) (shows 𝓤 H A Q.the-row) r (w ∷ []) (λ g. at-once ! $ show ! (λ (r : Planning). guard 𝓤 (refused-by-says r w) (sem 𝓤 H A (ftrue))) r $ check ! (ap only (EL.tells Q.the-type Q′.the-laws r _ g), (subst (Is Q.the-row r) (EL.tells Q.the-type Q′.the-laws r _ g) g, is)) $ keep ! (0 ∷ []) $ done !)))
+  -- ---- `tell_if`
+  abbrev pub TellIf : Contract 𝓤
+  TellIf = tripleOf 𝓤 H A tell-if.signature (tell-if.spec 𝓤 H A mem run)
 
-  -- ---- `tell`
-  abbrev pub Tell : Contract 𝓤
-  Tell = tripleOf 𝓤 H A tell.signature (tell.spec 𝓤 H A mem run)
+  module _ (W : Given 𝓤 H A) (b o m : ℕ) (l : List ℕ) (c : Checking) (p : Pass) where
+    abbrev pub to-tell-if : ℕ → GName → TellIf .Ghost
+    to-tell-if ν δ = (((ν ∷ [], tt), (fullShare, tt), tt, (at-list u64 b o δ l, (c, (p, tt))), (sliceVal (b, o) m ∷ [], (EL.val Y.the-type Y′.the-laws c ∷ [], (LL.val P.the-type P′.the-laws p ∷ [], tt)))), tt)
 
-  module _ (W : Given 𝓤 H A) (b o m : ℕ) (l : List ℕ) (p : Pass) where
-    abbrev pub to-tell : ℕ → GName → Tell .Ghost
-    to-tell ν δ = (((ν ∷ [], tt), (fullShare, tt), tt, (at-list u64 b o δ l, (p, tt)), (sliceVal (b, o) m ∷ [], (LL.val P.the-type P′.the-laws p ∷ [], tt))), tt)
+    abbrev pub tell-if-vals : List Val
+    tell-if-vals = sliceVal (b, o) m ∷ EL.val Y.the-type Y′.the-laws c ∷ LL.val P.the-type P′.the-laws p ∷ []
 
-    abbrev pub tell-vals : List Val
-    tell-vals = sliceVal (b, o) m ∷ LL.val P.the-type P′.the-laws p ∷ []
+    abbrev pub tell-if-says : Planning → List ℕ → Val → Type 0
+    tell-if-says r zs w = (w ≡ EL.val Q.the-type Q′.the-laws r) × (Is Q.the-row r (EL.vals Q.the-type Q′.the-laws r) × (ToldIf c p l zs r))
 
-    abbrev pub tell-says : Planning → List ℕ → Val → Type 0
-    tell-says r zs w = (w ≡ EL.val Q.the-type Q′.the-laws r) × (Is Q.the-row r (EL.vals Q.the-type Q′.the-laws r) × (Told p l zs r))
+    pub goes-tell-if : (FourIf l c) → Is Y.the-row c (EL.vals Y.the-type Y′.the-laws c) → Is P.the-row p (LL.vals P.the-type P′.the-laws p) → (ν : ℕ) (δ : GName) → ent 𝓤 (Sent u64 b o 𝓤 H A (ftrue) m ν δ l) (TellIf .pre (to-tell-if ν δ))
+    goes-tell-if within c-is p-is ν δ =
+        qed W (‵ (flft (ν ∷ []) fullShare) ∷ ‵ (Slice u64 b o (ν ∷ []) m δ l) ∷ ‵ (ftrue) ∷ []) ∵ says ! within $ move ! (2 ∷ []) $ move ! (1 ∷ 0 ∷ []) $ join ! $ frame ! $ nothing ! $ owned ! P.the-row (Is P.the-row) (LL.makes P.the-type P′.the-plain 𝓤 H A) p _ p-is $ fjoin ! $ owned ! Y.the-row (Is Y.the-row) (EL.makes Y.the-type Y′.the-plain 𝓤 H A) c _ c-is $ fjoin ! $ move ! (1 ∷ 0 ∷ []) $ fjoin ! $ done !
 
-    pub goes-tell : (placementRoom ≤ length l) → Is P.the-row p (LL.vals P.the-type P′.the-laws p) → (ν : ℕ) (δ : GName) → ent 𝓤 (Sent u64 b o 𝓤 H A (ftrue) m ν δ l) (Tell .pre (to-tell ν δ))
-    goes-tell within p-is ν δ =
-        qed W (‵ (flft (ν ∷ []) fullShare) ∷ ‵ (Slice u64 b o (ν ∷ []) m δ l) ∷ ‵ (ftrue) ∷ []) ∵ says ! within $ move ! (2 ∷ []) $ move ! (1 ∷ 0 ∷ []) $ join ! $ frame ! $ nothing ! $ owned ! P.the-row (Is P.the-row) (LL.makes P.the-type P′.the-plain 𝓤 H A) p _ p-is $ fjoin ! $ move ! (1 ∷ 0 ∷ []) $ fjoin ! $ done !
-
-    pub gets-tell : length l ≡ m → (ν : ℕ) (δ : GName) → (w : Val) → ent 𝓤 (Tell .post (to-tell ν δ) w) (H .⇛ (Back u64 b o 𝓤 H A (ftrue) m tell-says ν δ w))
-    gets-tell e ν δ w =
-        qed W (raw (Tell .post (to-tell ν δ) w) ∷ []) ∵ updating ! $ use1 W (later (some (λ (r : Planning). ((‵ (flft (ν ∷ []) fullShare) ⊛ ‵ ftrue) ⊛ ‵ (Q.the-row .own r (w ∷ []))) ⊛ raw (ensured 𝓤 H A tell.ended (tell.clauses 𝓤 H A mem run) (ν ∷ [], tt) (at-list u64 b o δ l, (p, tt)) tt r)))) (id⊢ 𝓤 _) $ await ! tt $ pick ! (λ r. split ! $ move ! (1 ∷ []) $ use1 W (some (λ (zs : (List ℕ × (Unit {0} × Unit {0}))). ‵ (lasts tell.ended (ν ∷ [], tt) (at-list u64 b o δ l, (p, tt)) zs) ⊛ raw (fact 𝓤 (Told p l (zs .0) r)))) (id⊢ 𝓤 _) $ pick ! (λ zs. split ! $ move ! (1 ∷ []) $ heard ! (Told p l (zs .0) r) (λ is. fsplit ! $ fsplit ! $ move ! (1 ∷ []) $ feqL ! (λ len. move ! (2 ∷ []) $ split ! $ move ! (1 ∷ []) $ facts ! Q.the-row (Is Q.the-row) (shows 𝓤 H A Q.the-row) r (w ∷ []) (λ g. split ! $ at-once ! $ show ! (λ (x : Planning × List ℕ). guard 𝓤 ((length (x .1) ≡ m) × tell-says (x .0) (x .1) w) (sep 𝓤 (A .lft (ν ∷ []) fullShare) (sep 𝓤 (sem 𝓤 H A (finally u64 δ (x .1))) (sem 𝓤 H A (ftrue))))) (r, zs .0) $ check ! (len ∙ e, (ap only (EL.tells Q.the-type Q′.the-laws r _ g), (subst (Is Q.the-row r) (EL.tells Q.the-type Q′.the-laws r _ g) g, is))) $ keep ! (0 ∷ 2 ∷ 1 ∷ []) $ done !)))))
+    pub gets-tell-if : length l ≡ m → (ν : ℕ) (δ : GName) → (w : Val) → ent 𝓤 (TellIf .post (to-tell-if ν δ) w) (H .⇛ (Back u64 b o 𝓤 H A (ftrue) m tell-if-says ν δ w))
+    gets-tell-if e ν δ w =
+        qed W (raw (TellIf .post (to-tell-if ν δ) w) ∷ []) ∵ updating ! $ use1 W (later (some (λ (r : Planning). ((‵ (flft (ν ∷ []) fullShare) ⊛ ‵ ftrue) ⊛ ‵ (Q.the-row .own r (w ∷ []))) ⊛ raw (ensured 𝓤 H A tell-if.ended (tell-if.clauses 𝓤 H A mem run) (ν ∷ [], tt) (at-list u64 b o δ l, (c, (p, tt))) tt r)))) (id⊢ 𝓤 _) $ await ! tt $ pick ! (λ r. split ! $ move ! (1 ∷ []) $ use1 W (some (λ (zs : (List ℕ × (Unit {0} × (Unit {0} × Unit {0})))). ‵ (lasts tell-if.ended (ν ∷ [], tt) (at-list u64 b o δ l, (c, (p, tt))) zs) ⊛ raw (fact 𝓤 (ToldIf c p l (zs .0) r)))) (id⊢ 𝓤 _) $ pick ! (λ zs. split ! $ move ! (1 ∷ []) $ heard ! (ToldIf c p l (zs .0) r) (λ is. fsplit ! $ fsplit ! $ move ! (1 ∷ []) $ feqL ! (λ len. move ! (2 ∷ []) $ split ! $ move ! (1 ∷ []) $ facts ! Q.the-row (Is Q.the-row) (shows 𝓤 H A Q.the-row) r (w ∷ []) (λ g. split ! $ at-once ! $ show ! (λ (x : Planning × List ℕ). guard 𝓤 ((length (x .1) ≡ m) × tell-if-says (x .0) (x .1) w) (sep 𝓤 (A .lft (ν ∷ []) fullShare) (sep 𝓤 (sem 𝓤 H A (finally u64 δ (x .1))) (sem 𝓤 H A (ftrue))))) (r, zs .0) $ check ! (len ∙ e, (ap only (EL.tells Q.the-type Q′.the-laws r _ g), (subst (Is Q.the-row r) (EL.tells Q.the-type Q′.the-laws r _ g) g, is))) $ keep ! (0 ∷ 2 ∷ 1 ∷ []) $ done !)))))

@@ -1,12 +1,3 @@
-pub mod Jobs
-pub mod Working
-pub mod Hanging
-pub mod JobSteps
-pub mod HangJobs
-pub mod SiteJobs
-pub mod Sights
-pub mod Below
-pub mod AtRow
 pub mod Entries
 pub mod Planning
 pub mod Listings

@@ -1,12 +1,11 @@
 -- What the functions below `list_records` give. Assumes nothing.
-use mathlib.Core.Path.{_≡_, refl, sym}
-use mathlib.Core.Bool.{Bool, true, false, cond, _||_}
-use mathlib.Core.List.{List, [], _∷_}
-use Prim.Native.Nat.{ℕ, _≤_, _<_}
-use native.Mathlib.Omega.{arith}
+use mathlib.Core.Path.{_≡_}
+use mathlib.Core.Bool.{cond}
+use mathlib.Core.List.{List, [], _++_, map}
+use Prim.Native.Nat.{ℕ, _≤_}
 use lib.Dec.{ltb, leb}
-use lib.IntN.{ℤ, pos}
-use lib.ListN.{length}
+use lib.IntN.{ℤ}
+use lib.ListN.{length, take, drop}
 use Rattle.rules.specs.declared.Checking.{Checking}
 use Rattle.rules.specs.declared.Checking.the-variants.{Accepted, Refused}
 use Rattle.rules.specs.declared.Listing.{Listing}
@@ -14,21 +13,26 @@ use Rattle.rules.specs.declared.Listing.the-variants.{Listed}
 use Rattle.rules.specs.declared.Listing.the-variants.{Refused as NotListed}
 use Rattle.rules.specs.declared.Refusal.the-variants.{Short, NoRow}
 use Rattle.rules.specs.Quantities.{listRoom, workRoom}
-use Rattle.rules.specs.Promises.{CheckPromise, zeros}
+use Rattle.rules.specs.Promises.{CheckPromise}
 use Rattle.laws.specs.Checked.{tablesOf, countsOf}
 use Rattle.rules.specs.declared.Cand.{Cand}
-use Rattle.runs.specs.declared.turns.Step.the-variants.{Put, FirstChoice}
-use Rattle.runs.specs.declared.turns.Pass.{Pass}
-use Rattle.runs.specs.Turns.{passOf}
-use Rattle.records.specs.Hanging.{Makes, Seen}
-use Rattle.records.specs.Entries.{clearPass, isAccepted}
+use Rattle.turns.specs.declared.Pass.{Pass}
+use Rattle.sights.specs.Hanging.{Makes, Seen}
+use Rattle.records.specs.Entries.{clearPass, idlePass, cleared, isAccepted}
 
-abbrev pub lookPass : ℕ → Pass
-lookPass i = passOf (FirstChoice 0 (record { 0 = 0 })) 1 i i i zeros (record { 0 = pos 0 })
+-- a start of one list copied over another's
+abbrev pub copied : {A : Type 0} → ℕ → (from to : List A) → List A
+copied i from to = take i from ++ drop i to
+
+abbrev pub loadsOf : List Cand → List ℕ
+loadsOf v = map (λ c. c .load .0) v
+
+abbrev pub timesOf : List Cand → List ℤ
+timesOf v = map (λ c. c .time .0) v
 
 abbrev pub clearOf : Checking → Pass
 clearOf Accepted = clearPass
-clearOf (Refused r) = passOf Put 0 0 0 0 zeros (record { 0 = pos 0 })
+clearOf (Refused r) = idlePass
 
 abbrev pub answerOf : Checking → ℕ → Listing
 answerOf Accepted len = Listed len
@@ -45,24 +49,32 @@ ListVerdict types rows due count n row loads times work c =
     ((checked : Checking) × CheckPromise (tablesOf types rows due) (countsOf count n) checked × RowVerdict types rows due count n row checked c)))
 
 abbrev pub MakesIf : (rows : List ℕ) (due : List ℤ) (types : List ℕ) (count n row : ℕ) (w : List Cand) → Checking → Type 0
-MakesIf rows due types count n row w Accepted = Makes rows due types count n row w
-MakesIf rows due types count n row w (Refused r) = Unit {0}
+MakesIf rows due types count n row w c = cond (isAccepted c) (Makes rows due types count n row w) (Unit {0})
 
 abbrev pub SeenIf : (rows : List ℕ) (due : List ℤ) (types : List ℕ) (count n row : ℕ) (w w′ : List Cand) → Checking → ℕ → Type 0
-SeenIf rows due types count n row w w′ Accepted len = Seen rows due types count n row w w′ len
-SeenIf rows due types count n row w w′ (Refused r) len = (w′ ≡ w) × (len ≡ 0)
+SeenIf rows due types count n row w w′ c len = cond (isAccepted c) (Seen rows due types count n row 0 w w′ len) ((w′ ≡ w) × (len ≡ 0))
 
-clash : false ≡ true → ⊥
-clash e = let z : _≡_ {A = ℕ} 0 1 = cc in omega arith
+abbrev pub ClearsIf : List Cand → Checking → Type 0
+ClearsIf w c = cond (isAccepted c) (workRoom ≤ length w) (Unit {0})
 
-pub makes-if : (rows : List ℕ) (due : List ℤ) (types : List ℕ) (count n row : ℕ) (w : List Cand) (c : Checking) → MakesIf rows due types count n row w c → isAccepted c ≡ true → Makes rows due types count n row w
-makes-if rows due types count n row w Accepted m e = m
-makes-if rows due types count n row w (Refused r) m e = absurd (clash e)
+abbrev pub ClearedIf : (w w′ : List Cand) → Checking → Type 0
+ClearedIf w w′ c = cond (isAccepted c) (w′ ≡ cleared w) (w′ ≡ w)
 
-pub seen-if : (rows : List ℕ) (due : List ℤ) (types : List ℕ) (count n row : ℕ) (w w′ : List Cand) (c : Checking) (len : ℕ) → isAccepted c ≡ true → Seen rows due types count n row w w′ len → SeenIf rows due types count n row w w′ c len
-seen-if rows due types count n row w w′ Accepted len e s = s
-seen-if rows due types count n row w w′ (Refused r) len e s = absurd (clash e)
+-- the areas have their rooms, and the net and its row are there
+pub record Lists (rows : List ℕ) (due : List ℤ) (types : List ℕ) (count n row : ℕ) (w : List Cand) (lls : List ℕ) (lts : List ℤ) : Type 0 where
+  pub loads : listRoom ≤ length lls
+  pub times : listRoom ≤ length lts
+  pub makes : Makes rows due types count n row w
 
-pub seen-not : (rows : List ℕ) (due : List ℤ) (types : List ℕ) (count n row : ℕ) (w : List Cand) (c : Checking) → isAccepted c ≡ false → SeenIf rows due types count n row w w c 0
-seen-not rows due types count n row w Accepted e = absurd (clash (sym e))
-seen-not rows due types count n row w (Refused r) e = (refl, refl)
+abbrev pub ListsIf : (rows : List ℕ) (due : List ℤ) (types : List ℕ) (count n row : ℕ) (w : List Cand) (lls : List ℕ) (lts : List ℤ) → Checking → Type 0
+ListsIf rows due types count n row w lls lts c = cond (isAccepted c) (Lists rows due types count n row w lls lts) (Unit {0})
+
+-- the list as it stood in the run, its pairs in the areas, and the run cleared
+pub record ListedIf (rows : List ℕ) (due : List ℤ) (types : List ℕ) (count n row : ℕ) (w w′ : List Cand) (lls lls′ : List ℕ) (lts lts′ : List ℤ) (c : Checking) (len : ℕ) : Type 0 where
+  pub run : List Cand
+  pub same : length run ≡ length w
+  pub seen : SeenIf rows due types count n row w run c len
+  pub few : len ≤ listRoom
+  pub loads : lls′ ≡ copied len (loadsOf run) lls
+  pub times : lts′ ≡ copied len (timesOf run) lts
+  pub cleared : ClearedIf run w′ c

@@ -1,28 +1,25 @@
 // Planning over a lent run of records: `plan_records` keeps the promise that `plan_net` keeps on columns.
+use rooms::WORK_ROOM;
 use rules::Cand;
 use rules::Checking;
 use rules::Femtofarad;
 use rules::Femtosecond;
 use rules::Planning;
 use rules::Refusal;
-use runs::turns::Pass;
-use runs::turns::Step;
+use turns::Pass;
+use turns::Step;
 ghost use mathlib.Core.Path.{_≡_};
 ghost use Prim.Native.Nat.{_≤_};
 ghost use lib.ListN.{length};
-ghost use Rattle.rules.specs.Quantities.{placementRoom};
 ghost use Rattle.rules.specs.Tables.{rowWords};
 ghost use Rattle.rules.specs.Promises.{PlanPromise, records};
 ghost use Rattle.laws.specs.Checked.{tablesOf, countsOf};
-ghost use Rattle.records.specs.Entries.{driverPass, clearPass, Plans, Chose, Told, Verdict, isAccepted, refusedBy};
+ghost use Rattle.rules.specs.Quantities.{placementRoom, workRoom};
+ghost use Rattle.runs.specs.Passes.{Swept};
+ghost use Rattle.records.specs.Entries.{driverPass, clearPass, idlePass, Chooses, cleared, Plans, Chose, PlansIf, ChoseIf, FourIf, Told, ToldIf, Verdict, isAccepted};
 
-pub mod jobs;
+pub mod copying;
 pub mod listing;
-pub mod walk;
-
-const PLACEMENT_ROOM: usize = 4;
-
-const WORK_ROOM: usize = 768;
 
 // The first greatest behind the driver.
 fn driver_pass(rows: &[u32], due: &[i64], len: usize) -> Pass
@@ -31,16 +28,42 @@ fn driver_pass(rows: &[u32], due: &[i64], len: usize) -> Pass
 {
     let driver = rows::row_at(rows, due, 0);
     let r = driver.resistance;
-    let none = runs::values::unmarked(Femtofarad(0), Femtosecond(0));
-    runs::turns::pass_at(Step::FirstChoice(0, r), len, 0, 0, 0, none, Femtosecond(0))
+    let none = turns::values::unmarked(Femtofarad(0), Femtosecond(0));
+    turns::pass_at(Step::FirstChoice(0, r), len, 0, 0, 0, none, Femtosecond(0))
 }
 
 // Zeros over the room.
-fn clear_pass() -> Pass
+pub fn clear_pass() -> Pass
     ensures { λ p. ⌜ p ≡ clearPass ⌝ }
 {
-    let none = runs::values::unmarked(Femtofarad(0), Femtosecond(0));
-    runs::turns::pass_at(Step::Put, WORK_ROOM, 0, 0, 0, none, Femtosecond(0))
+    let none = turns::values::unmarked(Femtofarad(0), Femtosecond(0));
+    turns::pass_at(Step::Put, WORK_ROOM, 0, 0, 0, none, Femtosecond(0))
+}
+
+// A pass with nothing to do.
+pub fn idle_pass() -> Pass
+    ensures { λ p. ⌜ p ≡ idlePass ⌝ }
+{
+    let none = turns::values::unmarked(Femtofarad(0), Femtosecond(0));
+    turns::pass_at(Step::Put, 0, 0, 0, 0, none, Femtosecond(0))
+}
+
+// The first greatest of the list at the driver is held.
+fn choose(run: &mut [Cand], rows: &[u32], due: &[i64], len: usize) -> Pass
+    requires { ⌜ Chooses (now rows) (now due) len (now run) ⌝ }
+    ensures { λ e. ⌜ Swept (driverPass (now (rows .entry)) (now (due .entry)) len) (now (run .entry)) e (now (run .exit)) ⌝ }
+{
+    let best = driver_pass(rows, due, len);
+    runs::passes::sweep(run, best)
+}
+
+// The room is left all zero.
+fn clear(run: &mut [Cand])
+    requires { ⌜ workRoom ≤ length (now run) ⌝ }
+    ensures { λ _. ⌜ now (run .exit) ≡ cleared (now (run .entry)) ⌝ }
+{
+    let zeros = clear_pass();
+    runs::passes::sweep(run, zeros);
 }
 
 // The list at the driver, the first greatest of it, and the run left all zero.
@@ -55,11 +78,29 @@ fn plan_in(
     requires { ⌜ Plans (now rows) (now due) (now types) count n (now run) ⌝ }
     ensures { λ e. ⌜ Chose (now (rows .entry)) (now (due .entry)) (now (types .entry)) count n (now (run .entry)) (now (run .exit)) e ⌝ }
 {
-    let len = walk::make(run, rows, due, types, count, n, 0);
-    let best = driver_pass(rows, due, len);
-    let e = runs::passes::sweep(run, best);
-    let clear = clear_pass();
-    runs::passes::sweep(run, clear);
+    let len = sights::make(run, rows, due, types, count, n, 0);
+    let e = choose(run, rows, due, len);
+    clear(run);
+    e
+}
+
+// Where something is refused the run is left as it is.
+fn plan_if(
+    run: &mut [Cand],
+    rows: &[u32],
+    due: &[i64],
+    types: &[u32],
+    count: usize,
+    n: usize,
+    c: Checking,
+) -> Pass
+    requires { ⌜ PlansIf (now rows) (now due) (now types) count n (now run) c ⌝ }
+    ensures { λ e. ⌜ ChoseIf (now (rows .entry)) (now (due .entry)) (now (types .entry)) count n (now (run .entry)) (now (run .exit)) c e ⌝ }
+{
+    let mut e = idle_pass();
+    if is_accepted(c) {
+        e = plan_in(run, rows, due, types, count, n);
+    }
     e
 }
 
@@ -79,6 +120,17 @@ fn tell(placement: &mut [u64], e: Pass) -> Planning
     Planning::Planned { slack, load }
 }
 
+// Where something is refused the placement is left as it is.
+fn tell_if(placement: &mut [u64], c: Checking, e: Pass) -> Planning
+    requires { ⌜ FourIf (now placement) c ⌝ }
+    ensures { λ r. ⌜ ToldIf c e (now (placement .entry)) (now (placement .exit)) r ⌝ }
+{
+    match c {
+        Checking::Accepted => tell(placement, e),
+        Checking::Refused(r) => Planning::Refused(r),
+    }
+}
+
 // Refusal 7 for the entry's own areas comes first.
 fn judge(
     types: &[u32],
@@ -91,10 +143,10 @@ fn judge(
 ) -> Checking
     ensures { λ c. ⌜ Verdict (now (types .entry)) (now (rows .entry)) (now (due .entry)) «type_count» «row_count» placement work c ⌝ }
 {
-    if placement < PLACEMENT_ROOM {
+    if rooms::short_placement(placement) {
         return Checking::Refused(Refusal::Short);
     }
-    if work < WORK_ROOM {
+    if rooms::short_run(work) {
         return Checking::Refused(Refusal::Short);
     }
     net::check_net(types, rows, due, type_count, row_count)
@@ -106,15 +158,6 @@ pub fn is_accepted(c: Checking) -> bool
     match c {
         Checking::Accepted => true,
         Checking::Refused(r) => false,
-    }
-}
-
-fn refused_by(c: Checking) -> Planning
-    ensures { λ r. ⌜ r ≡ refusedBy c ⌝ }
-{
-    match c {
-        Checking::Accepted => Planning::Refused(Refusal::Short),
-        Checking::Refused(r) => Planning::Refused(r),
     }
 }
 
@@ -139,10 +182,6 @@ pub fn plan_records(
         placement.len(),
         work.len(),
     );
-    let mut answer = refused_by(verdict);
-    if is_accepted(verdict) {
-        let e = plan_in(work, rows, due, types, type_count, row_count);
-        answer = tell(placement, e);
-    }
-    answer
+    let e = plan_if(work, rows, due, types, type_count, row_count, verdict);
+    tell_if(placement, verdict, e)
 }

@@ -1,61 +1,18 @@
 // Listing over a lent run of records: `list_records` keeps the promise that `list_at` keeps on columns.
+use crate::copying;
 use rules::Cand;
 use rules::Checking;
-use rules::Femtofarad;
-use rules::Femtosecond;
 use rules::Listing;
-use rules::Ohm;
 use rules::Refusal;
-use runs::turns::Pass;
-use runs::turns::Step;
+use turns::Pass;
 ghost use mathlib.Core.Path.{_≡_};
-ghost use Prim.Native.Nat.{_≤_, _<_};
-ghost use lib.ListN.{length, set};
+ghost use Prim.Native.Nat.{_≤_};
+ghost use lib.ListN.{length};
 ghost use Rattle.rules.specs.Quantities.{listRoom};
 ghost use Rattle.rules.specs.Promises.{ListPromise, records};
 ghost use Rattle.laws.specs.Checked.{tablesOf, countsOf};
-ghost use Rattle.plan.specs.Chosen.{lentOf};
-ghost use Rattle.records.specs.Listings.{lookPass, clearOf, ListVerdict, answerOf, MakesIf, SeenIf};
-
-const LIST_ROOM: usize = 257;
-
-const WORK_ROOM: usize = 768;
-
-// The record at a place is held, and nothing is changed.
-pub fn look_pass(i: usize) -> Pass
-    ensures { λ p. ⌜ p ≡ lookPass i ⌝ }
-{
-    let none = runs::values::unmarked(Femtofarad(0), Femtosecond(0));
-    runs::turns::pass_at(
-        Step::FirstChoice(0, Ohm(0)),
-        1,
-        i,
-        i,
-        i,
-        none,
-        Femtosecond(0),
-    )
-}
-
-pub fn put_load(loads: &mut [u32], i: usize, e: Pass)
-    requires { ⌜ i < length (now loads) ⌝ }
-    ensures { λ _. ⌜ now (loads .exit) ≡ set (now (loads .entry)) i (e .held .load .0) ⌝ }
-{
-    let c = e.held;
-    let load = c.load;
-    let x = load.0;
-    loads[i] = x;
-}
-
-pub fn put_time(times: &mut [i64], i: usize, e: Pass)
-    requires { ⌜ i < length (now times) ⌝ }
-    ensures { λ _. ⌜ now (times .exit) ≡ set (now (times .entry)) i (e .held .time .0) ⌝ }
-{
-    let c = e.held;
-    let time = c.time;
-    let t = time.0;
-    times[i] = t;
-}
+ghost use Rattle.chosen.specs.Chosen.{lentOf};
+ghost use Rattle.records.specs.Listings.{clearOf, ListVerdict, answerOf, MakesIf, SeenIf, ClearsIf, ClearedIf, ListsIf, ListedIf};
 
 // Refusal 7 for the entry's own areas comes first, and 8 last.
 pub fn judge_list(
@@ -71,13 +28,13 @@ pub fn judge_list(
 ) -> Checking
     ensures { λ c. ⌜ ListVerdict (now (types .entry)) (now (rows .entry)) (now (due .entry)) «type_count» «row_count» row loads times work c ⌝ }
 {
-    if loads < LIST_ROOM {
+    if rooms::short_area(loads) {
         return Checking::Refused(Refusal::Short);
     }
-    if times < LIST_ROOM {
+    if rooms::short_area(times) {
         return Checking::Refused(Refusal::Short);
     }
-    if work < WORK_ROOM {
+    if rooms::short_run(work) {
         return Checking::Refused(Refusal::Short);
     }
     let checked = net::check_net(types, rows, due, type_count, row_count);
@@ -108,7 +65,7 @@ pub fn make_if(
 {
     let mut len = 0;
     if crate::is_accepted(c) {
-        len = crate::walk::make(run, rows, due, types, count, n, row);
+        len = sights::make(run, rows, due, types, count, n, row);
     }
     len
 }
@@ -116,19 +73,41 @@ pub fn make_if(
 pub fn clear_of(c: Checking) -> Pass
     ensures { λ p. ⌜ p ≡ clearOf c ⌝ }
 {
-    let none = runs::values::unmarked(Femtofarad(0), Femtosecond(0));
     match c {
-        Checking::Accepted => runs::turns::pass_at(
-            Step::Put,
-            WORK_ROOM,
-            0,
-            0,
-            0,
-            none,
-            Femtosecond(0),
-        ),
-        Checking::Refused(r) => runs::turns::pass_at(Step::Put, 0, 0, 0, 0, none, Femtosecond(0)),
+        Checking::Accepted => crate::clear_pass(),
+        Checking::Refused(r) => crate::idle_pass(),
     }
+}
+
+// The room is left all zero, or as it is where something is refused.
+pub fn clear_if(run: &mut [Cand], c: Checking)
+    requires { ⌜ ClearsIf (now run) c ⌝ }
+    ensures { λ _. ⌜ ClearedIf (now (run .entry)) (now (run .exit)) c ⌝ }
+{
+    let zeros = clear_of(c);
+    runs::passes::sweep(run, zeros);
+}
+
+// The list at the row made, its pairs written to the lent areas, and the run left all zero; none where something is refused.
+pub fn list_if(
+    run: &mut [Cand],
+    rows: &[u32],
+    due: &[i64],
+    types: &[u32],
+    count: usize,
+    n: usize,
+    row: usize,
+    c: Checking,
+    loads: &mut [u32],
+    times: &mut [i64],
+) -> usize
+    requires { ⌜ ListsIf (now rows) (now due) (now types) count n row (now run) (now loads) (now times) c ⌝ }
+    ensures { λ len. ⌜ ListedIf (now (rows .entry)) (now (due .entry)) (now (types .entry)) count n row (now (run .entry)) (now (run .exit)) (now (loads .entry)) (now (loads .exit)) (now (times .entry)) (now (times .exit)) c len ⌝ }
+{
+    let len = make_if(run, rows, due, types, count, n, row, c);
+    copying::copy_pairs(run, loads, times, len);
+    clear_if(run, c);
+    len
 }
 
 pub fn answer_of(c: Checking, len: usize) -> Listing
@@ -166,16 +145,17 @@ pub fn list_records(
         list_times.len(),
         work.len(),
     );
-    let len = make_if(work, rows, due, types, type_count, row_count, row, verdict);
-    let mut i = 0;
-    while i < len {
-        let look = look_pass(i);
-        let e = runs::passes::sweep(work, look);
-        put_load(list_loads, i, e);
-        put_time(list_times, i, e);
-        i += 1;
-    }
-    let clear = clear_of(verdict);
-    runs::passes::sweep(work, clear);
+    let len = list_if(
+        work,
+        rows,
+        due,
+        types,
+        type_count,
+        row_count,
+        row,
+        verdict,
+        list_loads,
+        list_times,
+    );
     answer_of(verdict, len)
 }

@@ -125,10 +125,11 @@ columns = record {
   cleared = λ w. record { loads = written (replicate workRoom 0) (w .loads); times = written (replicate workRoom (pos 0)) (w .times); words = written (replicate (placementRoom * workRoom) 0) (w .words) };
 }
 
--- a run of records, each a load, a time and the four words of a placement
+-- a record of zeros: no load, time 0, no mark
 abbrev pub zeros : Cand
 zeros = record { load = record { 0 = 0 }; time = record { 0 = pos 0 }; words = 0 ∷ 0 ∷ 0 ∷ 0 ∷ [] }
 
+-- a run of records, each a load, a time and the four words of a placement
 unfoldable pub records : Storage (List Cand)
 records = record { short = λ w. ltb (length w) workRoom; cleared = λ w. written (replicate workRoom zeros) w }
 

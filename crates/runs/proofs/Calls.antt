@@ -32,18 +32,46 @@ use denote.Triple.Spec.{tripleOf}
 use denote.Triple.Statement.{Contract}
 use denote.Triple.Clauses.{ensured, lasts}
 use denote.Triple.Walked.{says}
+use lib.ListN.{getD}
+use Rattle.rules.specs.Promises.{zeros}
 use Rattle.rules.specs.declared.Cand.{Cand}
-use Rattle.runs.specs.declared.turns.Pass.{Pass}
+use Rattle.turns.specs.declared.Pass.{Pass}
 use Rattle.runs.specs.Passes.{Ready, Took, Safe, Swept}
 use Rattle.rules.proofs.Cand as T
 use Rattle.rules.proofs.Cand.Laws as T′
-use Rattle.runs.proofs.turns.Pass as P
-use Rattle.runs.proofs.turns.Pass.Laws as P′
+use Rattle.turns.proofs.Pass as P
+use Rattle.turns.proofs.Pass.Laws as P′
 use Rattle.runs.proofs.Lending.{at-list, Slice, Sent, Back}
+use Rattle.runs.proofs.passes.read_at as read-at
 use Rattle.runs.proofs.passes.turn_at as turn-at
 use Rattle.runs.proofs.passes.sweep as sweep
 
 module _ {M : Type 1} (𝓤 : URA M) (H : Heap 𝓤) (A : Atoms 𝓤) (mem : Memory → SProp 𝓤) (run : Routine → Fun 𝓤) where
+  -- ---- `read_at`
+  abbrev pub ReadAt : Contract 𝓤
+  ReadAt = tripleOf 𝓤 H A read-at.signature (read-at.spec 𝓤 H A mem run)
+
+  module _ (W : Given 𝓤 H A) (κ-run : Lft) (q-run : Share) (t-run : RefT (List Cand)) (i : ℕ) where
+    abbrev pub to-read-at : ReadAt .Ghost
+    to-read-at = (((κ-run, tt), (q-run, tt), tt, (t-run, (i, tt)), (sliceVal (t-run .ptr) (length (t-run .now)) ∷ [], (vint w64 i ∷ [], tt))), tt)
+
+    abbrev pub read-at-vals : List Val
+    read-at-vals = sliceVal (t-run .ptr) (length (t-run .now)) ∷ vint w64 i ∷ []
+
+    abbrev pub read-at-says : Cand → Val → Type 0
+    read-at-says r w = (w ≡ LL.val T.the-type T′.the-laws r) × (Is T.the-row r (LL.vals T.the-type T′.the-laws r) × (r ≡ getD (t-run .now) i zeros))
+
+    pub goes-read-at : (i < length (t-run .now)) → i < 2 ^ 64 → ent 𝓤 (sem 𝓤 H A (fsep (flft κ-run q-run) (ShrSlice (named 0) κ-run T.the-row .own t-run (sliceVal (t-run .ptr) (length (t-run .now)) ∷ [])))) (ReadAt .pre (to-read-at))
+    goes-read-at within i-fits =
+        qed W (‵ (fsep (flft κ-run q-run) (ShrSlice (named 0) κ-run T.the-row .own t-run (sliceVal (t-run .ptr) (length (t-run .now)) ∷ []))) ∷ []) ∵ says ! within $ fsplit ! $ nothing ! $ move ! (1 ∷ 0 ∷ []) $ join ! $ frame ! $ nothing ! $ owned ! usize (Is usize) (uint-makes 𝓤 H A W w64) i _ (refl, i-fits) $ fjoin ! $ move ! (1 ∷ 0 ∷ []) $ fjoin ! $ done !
+
+    says-of-read-at : (r : Cand) → ent 𝓤 (ensured 𝓤 H A read-at.ended (read-at.clauses 𝓤 H A mem run) (κ-run, tt) (t-run, (i, tt)) tt r) (fact 𝓤 (r ≡ getD (t-run .now) i zeros))
+    says-of-read-at r = exE 𝓤 _ (λ ws. snd∗ 𝓤 (sem 𝓤 H A (lasts read-at.ended (κ-run, tt) (t-run, (i, tt)) ws)) (fact 𝓤 (r ≡ getD (t-run .now) i zeros)))
+
+    pub gets-read-at : (w : Val) → ent 𝓤 (ReadAt .post (to-read-at) w) (H .⇛ (ex 𝓤 (λ (r : Cand). guard 𝓤 (read-at-says r w) (sem 𝓤 H A (flft κ-run q-run)))))
+    gets-read-at w =
+        qed W (raw (ReadAt .post (to-read-at) w) ∷ []) ∵ updating ! $ use1 W (later (some (λ (r : Cand). ((‵ (flft κ-run q-run) ⊛ ‵ ftrue) ⊛ ‵ (T.the-row .own r (w ∷ []))) ⊛ raw (ensured 𝓤 H A read-at.ended (read-at.clauses 𝓤 H A mem run) (κ-run, tt) (t-run, (i, tt)) tt r)))) (id⊢ 𝓤 _) $ await ! tt $ pick ! (λ r. split ! $ move ! (1 ∷ []) $ use1 W (raw (fact 𝓤 (r ≡ getD (t-run .now) i zeros))) (says-of-read-at r) $ heard ! (r ≡ getD (t-run .now) i zeros) (λ is. split ! $ move ! (1 ∷ []) $ facts ! T.the-row (Is T.the-row) (shows 𝓤 H A T.the-row) r (w ∷ []) (λ g. split ! $ at-once ! $ show ! (λ (r : Cand). guard 𝓤 (read-at-says r w) (sem 𝓤 H A (flft κ-run q-run))) r $ check ! (ap only (LL.tells T.the-type T′.the-laws r _ g), (subst (Is T.the-row r) (LL.tells T.the-type T′.the-laws r _ g) g, is)) $ keep ! (0 ∷ []) $ done !)))
+
   -- ---- `turn_at`
   abbrev pub TurnAt : Contract 𝓤
   TurnAt = tripleOf 𝓤 H A turn-at.signature (turn-at.spec 𝓤 H A mem run)

@@ -5,7 +5,7 @@ use lib.ListN.{length, drop, set, length-set}
 use lib.Seq.{drop-set-lt}
 use Rattle.rules.specs.Quantities.{workRoom}
 use Rattle.rules.specs.declared.Cand.{Cand}
-use Rattle.runs.specs.declared.turns.Pass.{Pass}
+use Rattle.turns.specs.declared.Pass.{Pass}
 use Rattle.runs.specs.Passes.{Safe, Swept, none, turn}
 use Rattle.runs.specs.Sweeps.{safe-ready, safe-next}
 

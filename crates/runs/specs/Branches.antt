@@ -13,13 +13,13 @@ use Rattle.rules.specs.Quantities.{workRoom}
 use Rattle.laws.specs.Joining.{join}
 use Rattle.laws.specs.Steps.{joined}
 use Rattle.columns.specs.Run.{blank}
-use Rattle.lists.specs.Branching.{Pair, Joining, Merged, joining-start, joining-fit, joining-step, joining-end, not-both}
+use Rattle.branches.specs.Branching.{Pair, Joining, Merged, joining-start, joining-fit, joining-step, joining-end, not-both}
 use Rattle.rules.specs.declared.Cand.{Cand}
-use Rattle.runs.specs.declared.turns.Step.the-variants.{Branch}
-use Rattle.runs.specs.declared.turns.Pass.{Pass}
-use Rattle.runs.specs.declared.turns.Turn.{Turn}
-use Rattle.runs.specs.Records.{candOf, cands}
-use Rattle.runs.specs.Turns.{passOf, Turned, onFrom, onWith}
+use Rattle.turns.specs.declared.Step.the-variants.{Branch}
+use Rattle.turns.specs.declared.Pass.{Pass}
+use Rattle.turns.specs.declared.Turn.{Turn}
+use Rattle.turns.specs.Records.{candOf, cands}
+use Rattle.turns.specs.Turns.{passOf, Turned, onFrom, onWith}
 use Rattle.runs.specs.Passes.{first, second, Ready, Safe, Swept}
 use Rattle.runs.specs.Sweeps.{kept-safe, kept-swept}
 use Rattle.runs.specs.Cands.{cands-length, cands-at, cands-set}

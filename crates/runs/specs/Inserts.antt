@@ -17,14 +17,14 @@ use Rattle.columns.specs.Run.{Candidate, blank}
 use Rattle.columns.specs.Made.{Gives}
 use Rattle.pairs.specs.Stands.{isBelow, isCovering, below-yes, below-no, covering-yes, covering-no, thin-above, thin-covers, thin-covered, thin-below, stands-below}
 use Rattle.rules.specs.declared.Cand.{Cand}
-use Rattle.runs.specs.declared.turns.Step.{Step}
-use Rattle.runs.specs.declared.turns.Step.the-variants.{Move, Insert, Shift}
-use Rattle.runs.specs.declared.turns.Pass.{Pass}
-use Rattle.runs.specs.declared.turns.Turn.{Turn}
+use Rattle.turns.specs.declared.Step.{Step}
+use Rattle.turns.specs.declared.Step.the-variants.{Move, Insert, Shift}
+use Rattle.turns.specs.declared.Pass.{Pass}
+use Rattle.turns.specs.declared.Turn.{Turn}
 use Rattle.rules.specs.Promises.{zeros}
-use Rattle.runs.specs.Records.{candOf, cands}
+use Rattle.turns.specs.Records.{candOf, cands}
 use Rattle.runs.specs.Cands.{cands-length, cands-at, cands-set}
-use Rattle.runs.specs.Turns.{passOf, Here, Shifting, Turned}
+use Rattle.turns.specs.Turns.{passOf, Here, Shifting, Turned}
 use Rattle.runs.specs.Passes.{first, second, Ready, Safe, Swept}
 use Rattle.runs.specs.Sweeps.{kept-safe, kept-swept}
 

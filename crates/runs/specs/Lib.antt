@@ -1,8 +1,5 @@
-pub mod Records
-pub mod Turns
 pub mod Passes
 pub mod Sweeps
-pub mod Values
 pub mod Cands
 pub mod Beyond
 pub mod Puts

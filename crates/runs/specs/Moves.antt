@@ -9,11 +9,11 @@ use Rattle.rules.specs.Quantities.{workRoom}
 use Rattle.columns.specs.Run.{blank}
 use Rattle.columns.specs.Moving.{Moved, Lowering, lowering-start, lowering-step, lowering-end}
 use Rattle.rules.specs.declared.Cand.{Cand}
-use Rattle.runs.specs.declared.turns.Step.the-variants.{Move}
-use Rattle.runs.specs.declared.turns.Pass.{Pass}
-use Rattle.runs.specs.declared.turns.Turn.{Turn}
-use Rattle.runs.specs.Records.{cands}
-use Rattle.runs.specs.Turns.{passOf, Turned}
+use Rattle.turns.specs.declared.Step.the-variants.{Move}
+use Rattle.turns.specs.declared.Pass.{Pass}
+use Rattle.turns.specs.declared.Turn.{Turn}
+use Rattle.turns.specs.Records.{cands}
+use Rattle.turns.specs.Turns.{passOf, Turned}
 use Rattle.runs.specs.Passes.{first, second, Ready, Safe, Swept}
 use Rattle.runs.specs.Sweeps.{kept-safe, kept-swept}
 use Rattle.runs.specs.Cands.{cands-length, cands-at, cands-set}

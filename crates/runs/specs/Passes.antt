@@ -5,11 +5,11 @@ use Prim.Native.Nat.{ℕ, _≤_, _<_}
 use lib.ListN.{length, getD, set}
 use Rattle.rules.specs.Quantities.{workRoom}
 use Rattle.rules.specs.declared.Cand.{Cand}
-use Rattle.runs.specs.declared.turns.Pass.{Pass}
-use Rattle.runs.specs.declared.turns.Turn.{Turn}
+use Rattle.turns.specs.declared.Pass.{Pass}
+use Rattle.turns.specs.declared.Turn.{Turn}
 use Rattle.rules.specs.Promises.{zeros}
-use Rattle.runs.specs.Records.{candOf}
-use Rattle.runs.specs.Turns.{Here, Can, Turned}
+use Rattle.turns.specs.Records.{candOf}
+use Rattle.turns.specs.Turns.{Here, Can, Turned}
 
 -- what the pass reads
 abbrev pub first : Pass → List Cand → Cand

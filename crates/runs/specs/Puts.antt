@@ -6,12 +6,12 @@ use native.Mathlib.Omega.{arith}
 use lib.ListN.{length, drop, set, replicate, length-set}
 use Rattle.rules.specs.declared.Femtosecond.{Femtosecond}
 use Rattle.rules.specs.Quantities.{workRoom}
-use Rattle.columns.specs.Clearing.{Clearing, clearing-start, clearing-step, clearing-end}
+use Rattle.clearing.specs.Clearing.{Clearing, clearing-start, clearing-step, clearing-end}
 use Rattle.rules.specs.declared.Cand.{Cand}
-use Rattle.runs.specs.declared.turns.Step.the-variants.{Put}
-use Rattle.runs.specs.declared.turns.Pass.{Pass}
-use Rattle.runs.specs.declared.turns.Turn.{Turn}
-use Rattle.runs.specs.Turns.{passOf, Turned}
+use Rattle.turns.specs.declared.Step.the-variants.{Put}
+use Rattle.turns.specs.declared.Pass.{Pass}
+use Rattle.turns.specs.declared.Turn.{Turn}
+use Rattle.turns.specs.Turns.{passOf, Turned}
 use Rattle.runs.specs.Passes.{first, second, Ready, Safe, Swept, none, turn}
 use Rattle.runs.specs.Sweeps.{kept-safe, kept-swept}
 

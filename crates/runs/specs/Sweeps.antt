@@ -9,11 +9,11 @@ use lib.Signed.{ltZ}
 use lib.ListN.{length, getD, set}
 use Rattle.pairs.specs.Stands.{isBelow, isCovering}
 use Rattle.rules.specs.declared.Cand.{Cand}
-use Rattle.runs.specs.declared.turns.Step.{Step}
-use Rattle.runs.specs.declared.turns.Step.the-variants.{Put, Move, FirstWire, Wire, FirstChoice, Choose, Insert, Shift, Branch}
-use Rattle.runs.specs.declared.turns.Pass.{Pass}
-use Rattle.runs.specs.declared.turns.Turn.{Turn}
-use Rattle.runs.specs.Turns.{passOf, Here, Turned, Searching, Shifting, Inserting, worthOf, bothLeft, onFrom, onWith}
+use Rattle.turns.specs.declared.Step.{Step}
+use Rattle.turns.specs.declared.Step.the-variants.{Put, Move, FirstWire, Wire, FirstChoice, Choose, Insert, Shift, Branch}
+use Rattle.turns.specs.declared.Pass.{Pass}
+use Rattle.turns.specs.declared.Turn.{Turn}
+use Rattle.turns.specs.Turns.{passOf, Here, Turned, Searching, Shifting, Inserting, worthOf, bothLeft, onFrom, onWith}
 use Rattle.runs.specs.Passes.{first, second, Ready, Took, Safe, over, more, Swept, none, turn}
 
 -- a turn that goes on with fewer

@@ -19,16 +19,16 @@ use Rattle.laws.specs.Moves.{behind, wireStep}
 use Rattle.columns.specs.Parts.{part, part-cons}
 use Rattle.columns.specs.Run.{Candidate, blank}
 use Rattle.columns.specs.Made.{Fit, Stand, Gives, wireOf}
-use Rattle.lists.specs.Wiring.{Wiring, wiring-start, wiring-end, wiring-next, wiring-made}
-use Rattle.lists.specs.Wiring.{step as wiring-step}
+use Rattle.wires.specs.Wiring.{Wiring, wiring-start, wiring-end, wiring-next, wiring-made}
+use Rattle.wires.specs.Wiring.{step as wiring-step}
 use Rattle.rules.specs.declared.Cand.{Cand}
-use Rattle.runs.specs.declared.turns.Step.the-variants.{FirstWire, Wire}
-use Rattle.runs.specs.declared.turns.Pass.{Pass}
-use Rattle.runs.specs.declared.turns.Turn.{Turn}
+use Rattle.turns.specs.declared.Step.the-variants.{FirstWire, Wire}
+use Rattle.turns.specs.declared.Pass.{Pass}
+use Rattle.turns.specs.declared.Turn.{Turn}
 use Rattle.rules.specs.Promises.{zeros}
-use Rattle.runs.specs.Records.{candOf, cands}
+use Rattle.turns.specs.Records.{candOf, cands}
 use Rattle.runs.specs.Cands.{cands-length, cands-at, cands-set}
-use Rattle.runs.specs.Turns.{passOf, Turned}
+use Rattle.turns.specs.Turns.{passOf, Turned}
 use Rattle.runs.specs.Passes.{first, second, Ready, Safe, Swept}
 use Rattle.runs.specs.Sweeps.{kept-safe, kept-swept}
 

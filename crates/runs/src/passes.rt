@@ -1,8 +1,19 @@
-// A pass over the run: the only functions that read and store its records.
-use crate::turns;
-use crate::turns::Pass;
+// A pass over the run, and a record of it read: the only functions that read and store its records.
 use rules::Cand;
+use turns::Pass;
+ghost use mathlib.Core.Path.{_≡_};
+ghost use Prim.Native.Nat.{_<_};
+ghost use lib.ListN.{length, getD};
+ghost use Rattle.rules.specs.Promises.{zeros};
 ghost use Rattle.runs.specs.Passes.{Ready, Took, Safe, Swept};
+
+// One record.
+pub fn read_at(run: &[Cand], i: usize) -> Cand
+    requires { ⌜ i < length (now run) ⌝ }
+    ensures { λ r. ⌜ r ≡ getD (now (run .entry)) i zeros ⌝ }
+{
+    run[i]
+}
 
 // One turn: two records are read, one is stored.
 pub fn turn_at(run: &mut [Cand], p: Pass) -> Pass

@@ -6,20 +6,7 @@ use super::steps::sited;
 use super::steps::started;
 ghost use mathlib.Core.Path.{_≡_};
 ghost use Prim.Native.Nat.{_≤_, _<_};
-ghost use lib.ListN.{length, getD};
 ghost use Rattle.slack.specs.Ready.{Ready, hungBelow, hungAt};
-
-const NEXT_AT: usize = 256;
-
-const SITES_AT: usize = 512;
-
-// A place of the table of links.
-fn link_at(links: &[u16], i: usize) -> usize
-    requires { ⌜ i < length (now links) ⌝ }
-    ensures { λ r. ⌜ r ≡ getD (now (links .entry)) i 0 ⌝ }
-{
-    links[i] as usize
-}
 
 // What hangs under the parent of row c among the rows from c on: row c behind its wire, beside the next row under the same parent and
 // those after it. The number past the last row ends them.
@@ -42,7 +29,7 @@ fn below(
     let x = rows::row_at(rows, due, c);
     let h = seen(rows, due, types, words, links, n, c);
     let own = behind_wire(h, x.resistance, x.capacitance);
-    let next = link_at(links, NEXT_AT + c);
+    let next = rows::next_beside(links, c);
     let later = below(rows, due, types, words, links, n, next);
     beside(own, later)
 }
@@ -61,10 +48,10 @@ pub fn seen(
     requires { ⌜ row < n ⌝ }
     ensures { λ r. ⌜ r ≡ hungAt (now (rows .entry)) (now (due .entry)) (now (types .entry)) (now (words .entry)) n row ⌝ }
 {
-    let first = link_at(links, row);
+    let first = rows::first_below(links, row);
     let under = below(rows, due, types, words, links, n, first);
     let x = rows::row_at(rows, due, row);
-    let k = link_at(links, SITES_AT + row);
+    let k = rows::sites_before(links, row);
     let kind = x.kind;
     let driven = started(kind, under);
     sited(types, words, x.site, k, driven)

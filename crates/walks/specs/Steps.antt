@@ -16,8 +16,8 @@ use Rattle.laws.specs.Bounds.{wireStep-length}
 use Rattle.columns.specs.Parts.{part, part-length, part-less, part-part}
 use Rattle.columns.specs.Run.{Candidate}
 use Rattle.columns.specs.Made.{Room, Stand, Gives}
-use Rattle.lists.specs.Branching.{Pair}
-use Rattle.lists.specs.Types.{repeatersOf, TypesIn}
+use Rattle.branches.specs.Branching.{Pair}
+use Rattle.sites.specs.Types.{repeatersOf, TypesIn}
 use Rattle.walks.specs.Shown.{siteList}
 use Rattle.walks.specs.Made.{Wired, Hang, Sited, Typed}
 

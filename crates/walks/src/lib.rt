@@ -40,7 +40,7 @@ pub fn wire_row(
     let x = rows::row_at(rows, due, row);
     let r = x.resistance;
     let c = x.capacitance;
-    lists::wires::wire_list(loads, times, words, at, n, r, c)
+    wires::wire_list(loads, times, words, at, n, r, c)
 }
 
 // A row's own list behind its wire, joined with the list of other rows under the same parent, which stands before it.
@@ -62,7 +62,7 @@ pub fn hang(
     ensures { λ len. ⌜ Gives (run (now (loads .entry)) (now (times .entry)) (now (words .entry))) (run (now (loads .exit)) (now (times .exit)) (now (words .exit))) at len (merge join (wireStep (wireOf (rowAt (now (rows .entry)) (now (due .entry)) row)) (part (at + m) (at + m + n) (run (now (loads .entry)) (now (times .entry)) (now (words .entry))))) (part at (at + m) (run (now (loads .entry)) (now (times .entry)) (now (words .entry))))) ⌝ }
 {
     let k = wire_row(rows, due, loads, times, words, row, at + m, n);
-    lists::branches::join_lists(loads, times, words, at, m, k)
+    branches::join_lists(loads, times, words, at, m, k)
 }
 
 // A sink's pin as the one candidate of a list; of any other row nothing is put.
@@ -117,7 +117,7 @@ pub fn put_site(
     let x = rows::row_at(rows, due, row);
     if x.site {
         let k = rows::sites_before(links, row);
-        return lists::sites::put_types(types, count, loads, times, words, at, n, k);
+        return sites::put_types(types, count, loads, times, words, at, n, k);
     }
     n
 }
@@ -146,7 +146,7 @@ pub fn pin_list(
     let x = rows::row_at(rows, due, row);
     if x.site {
         let k = rows::sites_before(links, row);
-        return lists::sites::put_types(types, count, loads, times, words, at, 1, k);
+        return sites::put_types(types, count, loads, times, words, at, 1, k);
     }
     1
 }

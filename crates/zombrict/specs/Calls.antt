@@ -13,7 +13,7 @@ use Rattle.rules.specs.declared.Listing.{Listing}
 use Rattle.rules.specs.Tables.{Tables, Counts}
 use Rattle.rules.specs.Answers.{readFigures, checkFigures, slackFigures, planFigures, listFigures}
 use Rattle.rules.specs.Promises.{ReadPromise, CheckPromise, SlackPromise, PlanPromise, ListPromise, Columns, Lent, columns}
-use Rattle.zombrict.specs.Crossing.{answerRoom, countWords, noWords, timingWords, lengthWords, Crossed, Called}
+use Rattle.answers.specs.Crossing.{answerRoom, countWords, noWords, timingWords, lengthWords, Crossed, Called}
 
 -- 7 is returned, and the answer's area is as it was
 abbrev pub Unanswered : (before after : List ℤ) (r : ℕ) → Type 0

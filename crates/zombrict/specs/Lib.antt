@@ -1,4 +1,3 @@
-pub mod Crossing
 pub mod Calls
 pub mod Texts
 pub mod TextLaws

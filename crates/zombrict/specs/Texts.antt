@@ -17,7 +17,7 @@ use Rattle.rules.specs.Tables.{Tables}
 use Rattle.rules.specs.Answers.{refused, noTiming, readFigures, slackFigures, planFigures, listFigures}
 use Rattle.rules.specs.Promises.{ReadPromise, SlackPromise, PlanPromise, ListPromise, Columns, Lent, columns, shortPlacement, shortLent}
 use Rattle.net.specs.TableSteps.{tablesOf, countsOf}
-use Rattle.zombrict.specs.Crossing.{answerRoom, countWords, timingWords, lengthWords, Crossed, Called}
+use Rattle.answers.specs.Crossing.{answerRoom, countWords, timingWords, lengthWords, Crossed, Called}
 use Rattle.zombrict.specs.Calls.{Unanswered}
 
 -- tables and a work area of exactly their room, all zero

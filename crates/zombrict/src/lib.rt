@@ -1,17 +1,10 @@
 // The static library: each entry under a name of its own for C and Rust, on numbers and slices only. include/zombrict.h says what each
 // call is lent and answers.
-mod answers;
 mod texts;
 
 ghost use Rattle.net.specs.TableSteps.{tablesOf, countsOf};
-ghost use Rattle.plan.specs.Chosen.{columnsOf, lentOf};
+ghost use Rattle.chosen.specs.Chosen.{columnsOf, lentOf};
 ghost use Rattle.zombrict.specs.Calls.{ReadCall, CheckCall, SlackCall, PlanCall, ListCall};
-
-// Room: words of an answer.
-pub const ANSWER_ROOM: usize = 3;
-
-// The refusal of an area shorter than its room.
-pub const SHORT: u32 = 7;
 
 // A net as text, read into the lent tables. The values answered are the counts of types and rows.
 #[no_mangle]
@@ -24,8 +17,8 @@ pub extern "C" fn zombrict_read(
 ) -> u32
     ensures { λ r. ⌜ ReadCall (now (text .entry)) (tablesOf (now (types .entry)) (now (rows .entry)) (now (due .entry))) (tablesOf (now (types .exit)) (now (rows .exit)) (now (due .exit))) (now (answer .entry)) (now (answer .exit)) r ⌝ }
 {
-    if answer.len() < ANSWER_ROOM {
-        return SHORT;
+    if answer.len() < answers::room() {
+        return answers::short();
     }
     let a = net::read_net(text, types, rows, due);
     answers::tell_reading(answer, a)
@@ -43,8 +36,8 @@ pub extern "C" fn zombrict_check(
 ) -> u32
     ensures { λ r. ⌜ CheckCall (tablesOf (now (types .entry)) (now (rows .entry)) (now (due .entry))) (countsOf «type_count» «row_count») (now (answer .entry)) (now (answer .exit)) r ⌝ }
 {
-    if answer.len() < ANSWER_ROOM {
-        return SHORT;
+    if answer.len() < answers::room() {
+        return answers::short();
     }
     let a = net::check_net(types, rows, due, type_count, row_count);
     answers::tell_checking(answer, a)
@@ -63,8 +56,8 @@ pub extern "C" fn zombrict_slack(
 ) -> u32
     ensures { λ r. ⌜ SlackCall (tablesOf (now (types .entry)) (now (rows .entry)) (now (due .entry))) (countsOf «type_count» «row_count») (now (placement .entry)) (now (answer .entry)) (now (answer .exit)) r ⌝ }
 {
-    if answer.len() < ANSWER_ROOM {
-        return SHORT;
+    if answer.len() < answers::room() {
+        return answers::short();
     }
     let a = slack::slack_of(types, rows, due, type_count, row_count, placement);
     answers::tell_slacking(answer, a)
@@ -86,8 +79,8 @@ pub extern "C" fn zombrict_plan(
 ) -> u32
     ensures { λ r. ⌜ PlanCall (tablesOf (now (types .entry)) (now (rows .entry)) (now (due .entry))) (countsOf «type_count» «row_count») (now (placement .entry)) (now (placement .exit)) (columnsOf (now (loads .entry)) (now (times .entry)) (now (words .entry))) (columnsOf (now (loads .exit)) (now (times .exit)) (now (words .exit))) (now (answer .entry)) (now (answer .exit)) r ⌝ }
 {
-    if answer.len() < ANSWER_ROOM {
-        return SHORT;
+    if answer.len() < answers::room() {
+        return answers::short();
     }
     let a = plan::plan_net(
         types,
@@ -121,8 +114,8 @@ pub extern "C" fn zombrict_list(
 ) -> u32
     ensures { λ r. ⌜ ListCall (tablesOf (now (types .entry)) (now (rows .entry)) (now (due .entry))) (countsOf «type_count» «row_count») row (lentOf (now («list_loads» .entry)) (now («list_times» .entry))) (lentOf (now («list_loads» .exit)) (now («list_times» .exit))) (columnsOf (now (loads .entry)) (now (times .entry)) (now (words .entry))) (columnsOf (now (loads .exit)) (now (times .exit)) (now (words .exit))) (now (answer .entry)) (now (answer .exit)) r ⌝ }
 {
-    if answer.len() < ANSWER_ROOM {
-        return SHORT;
+    if answer.len() < answers::room() {
+        return answers::short();
     }
     let a = plan::list_at(
         types,

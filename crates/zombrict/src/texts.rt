@@ -1,7 +1,4 @@
 // The entries for a net as text. Tables and work area are the call's own and stand on the stack, some 45,000 bytes.
-use super::ANSWER_ROOM;
-use super::SHORT;
-use super::answers;
 use rules::Listing;
 use rules::Planning;
 use rules::Reading;
@@ -11,7 +8,7 @@ ghost use mathlib.Core.Path.{_≡_};
 ghost use mathlib.Core.Bool.{_||_};
 ghost use lib.Dec.{ltb};
 ghost use Rattle.net.specs.TableSteps.{tablesOf};
-ghost use Rattle.plan.specs.Chosen.{lentOf};
+ghost use Rattle.chosen.specs.Chosen.{lentOf};
 ghost use Rattle.zombrict.specs.Texts.{SlackRead, PlanRead, ListRead, CheckTextCall, SlackTextCall, PlanTextCall, ListTextCall};
 
 const PLACEMENT_ROOM: usize = 4;
@@ -29,8 +26,8 @@ fn wide(x: u32) -> usize
 pub extern "C" fn zombrict_check_text(text: &[u8], answer: &mut [i64]) -> u32
     ensures { λ r. ⌜ CheckTextCall (now (text .entry)) (now (answer .entry)) (now (answer .exit)) r ⌝ }
 {
-    if answer.len() < ANSWER_ROOM {
-        return SHORT;
+    if answer.len() < answers::room() {
+        return answers::short();
     }
     let mut types = [0u32; 12];
     let mut rows = [0u32; 1536];
@@ -61,8 +58,8 @@ fn slack_read(
 pub extern "C" fn zombrict_slack_text(text: &[u8], placement: &[u64], answer: &mut [i64]) -> u32
     ensures { λ r. ⌜ SlackTextCall (now (text .entry)) (now (placement .entry)) (now (answer .entry)) (now (answer .exit)) r ⌝ }
 {
-    if answer.len() < ANSWER_ROOM {
-        return SHORT;
+    if answer.len() < answers::room() {
+        return answers::short();
     }
     if placement.len() < PLACEMENT_ROOM {
         return answers::tell_refusal(answer, Refusal::Short);
@@ -110,8 +107,8 @@ fn plan_read(
 pub extern "C" fn zombrict_plan_text(text: &[u8], placement: &mut [u64], answer: &mut [i64]) -> u32
     ensures { λ r. ⌜ PlanTextCall (now (text .entry)) (now (placement .entry)) (now (placement .exit)) (now (answer .entry)) (now (answer .exit)) r ⌝ }
 {
-    if answer.len() < ANSWER_ROOM {
-        return SHORT;
+    if answer.len() < answers::room() {
+        return answers::short();
     }
     if placement.len() < PLACEMENT_ROOM {
         return answers::tell_refusal(answer, Refusal::Short);
@@ -178,8 +175,8 @@ pub extern "C" fn zombrict_list_text(
 ) -> u32
     ensures { λ r. ⌜ ListTextCall (now (text .entry)) row (lentOf (now («list_loads» .entry)) (now («list_times» .entry))) (lentOf (now («list_loads» .exit)) (now («list_times» .exit))) (now (answer .entry)) (now (answer .exit)) r ⌝ }
 {
-    if answer.len() < ANSWER_ROOM {
-        return SHORT;
+    if answer.len() < answers::room() {
+        return answers::short();
     }
     if short_list(list_loads.len(), list_times.len()) {
         return answers::tell_refusal(answer, Refusal::Short);

@@ -1,6 +1,6 @@
 -- `plan::list_accepted` meets its contract. Assumes nothing.
-use Rattle.plan.specs.Promised.{parts-exact, list-promise, cleared-is}
-use Rattle.plan.specs.Chosen.{lentOf}
+use Rattle.chosen.specs.Promised.{parts-exact, list-promise, cleared-is}
+use Rattle.chosen.specs.Chosen.{lentOf}
 use lib.Seq.{length-take-le}
 use mathlib.Core.Path.{_≡_, refl, sym}
 use Rattle.rules.specs.declared.Listing.the-variants.{Listed}

@@ -1,6 +1,6 @@
 -- `plan::list_checked` meets its contract. Assumes nothing.
 use Rattle.plan.specs.Refusing.{list-short-own, list-short-work, list-stopped, list-no-row}
-use Rattle.plan.specs.Promised.{work-room, list-rooms}
+use Rattle.chosen.specs.Promised.{work-room, list-rooms}
 use Rattle.laws.specs.Checked.{tablesOf, countsOf, checked-stopped, checked-passed}
 use mathlib.Core.Path.{sym, _∙_}
 use borrow.Author.Needs.{needs}

@@ -1,5 +1,5 @@
 -- `plan::plan_accepted` meets its contract. Assumes nothing.
-use Rattle.plan.specs.Promised.{parts-exact, plan-promise, cleared-is}
+use Rattle.chosen.specs.Promised.{parts-exact, plan-promise, cleared-is}
 use lib.Seq.{length-take-le}
 use mathlib.Core.Path.{refl, sym}
 use borrow.Author.Needs.{needs}

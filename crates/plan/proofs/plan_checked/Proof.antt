@@ -1,8 +1,8 @@
 -- `plan::plan_checked` meets its contract. Assumes nothing.
 use Rattle.plan.specs.Refusing.{plan-short-own, plan-short-work, plan-stopped}
-use Rattle.plan.specs.Promised.{work-room}
+use Rattle.chosen.specs.Promised.{work-room}
 use Rattle.laws.specs.Checked.{tablesOf, countsOf, checked-stopped, checked-passed}
-use borrow.Author.Tests.{lt-ltb, le-ltb}
+use borrow.Author.Tests.{ltb-false}
 use mathlib.Core.Path.{sym, _∙_}
 use borrow.Author.Needs.{needs}
 use Rattle.plan.proofs.plan_checked.Statement.{statement}
@@ -10,17 +10,20 @@ use Rattle.plan.proofs.plan_checked.Tie as tie
 
 returns : tie.Need-returns
 returns c =
-    let a = c .before .before .before .before .before .before .args in
-    let p = c .before .before .before .before .before .before .pre in
-    plan-short-own (tablesOf (a .types .now) (a .rows .now) (a .due .now)) (countsOf (a .count) (a .n)) (a .loads .now) (a .times .now) (a .words .now) (a .placement .now) (lt-ltb _ _ (c .if1 .taken))
+    let a = c .before .before .before .before .before .before .before .args in
+    let p = c .before .before .before .before .before .before .before .pre in
+    plan-short-own (tablesOf (a .types .now) (a .rows .now) (a .due .now)) (countsOf (a .count) (a .n)) (a .loads .now) (a .times .now) (a .words .now) (a .placement .now) (sym (c .before .short-placement .ensures) ∙ c .if1 .taken)
+
+short-placement-requires : tie.Need-short-placement-requires
+short-placement-requires c κs = search needs
 
 short-work-requires : tie.Need-short-work-requires
 short-work-requires c κs = search needs
 
 returns-2 : tie.Need-returns-2
 returns-2 c =
-    let a = c .before .before .before .before .before .before .before .before .args in
-    let p = c .before .before .before .before .before .before .before .before .pre in
+    let a = c .before .before .before .before .before .before .before .before .before .args in
+    let p = c .before .before .before .before .before .before .before .before .before .pre in
     plan-short-work (tablesOf (a .types .now) (a .rows .now) (a .due .now)) (countsOf (a .count) (a .n)) (a .loads .now) (a .times .now) (a .words .now) (a .placement .now) (sym (c .before .short-work .ensures) ∙ c .if2 .taken)
 
 enum-known-checked : tie.Need-enum-known-checked
@@ -31,15 +34,15 @@ enum-told c = search needs
 
 plan-accepted-requires : tie.Need-plan-accepted-requires
 plan-accepted-requires c κs =
-    let a = c .before .before .before .before .before .before .before .before .before .before .before .before .before .before .args in
-    let p = c .before .before .before .before .before .before .before .before .before .before .before .before .before .before .pre in
-    (checked-passed (tablesOf (a .types .now) (a .rows .now) (a .due .now)) (countsOf (a .count) (a .n)) (a .checked) p (c .before .before .before .before .enum-told .given .1), (c .before .before .before .before .before .before .before .before .if1 .left, work-room (sym (c .before .before .before .before .before .before .before .short-work .ensures) ∙ c .before .before .before .before .before .before .if2 .left)))
+    let a = c .before .before .before .before .before .before .before .before .before .before .before .before .before .before .before .args in
+    let p = c .before .before .before .before .before .before .before .before .before .before .before .before .before .before .before .pre in
+    (checked-passed (tablesOf (a .types .now) (a .rows .now) (a .due .now)) (countsOf (a .count) (a .n)) (a .checked) p (c .before .before .before .before .enum-told .given .1), (ltb-false _ _ (sym (c .before .before .before .before .before .before .before .before .before .short-placement .ensures) ∙ c .before .before .before .before .before .before .before .before .if1 .left), work-room (sym (c .before .before .before .before .before .before .before .short-work .ensures) ∙ c .before .before .before .before .before .before .if2 .left)))
 
 returns-3 : tie.Need-returns-3
 returns-3 c =
-    let a = c .before .before .before .before .before .before .before .before .before .before .before .args in
-    let p = c .before .before .before .before .before .before .before .before .before .before .before .pre in
-    plan-stopped (tablesOf (a .types .now) (a .rows .now) (a .due .now)) (countsOf (a .count) (a .n)) (a .loads .now) (a .times .now) (a .words .now) (a .placement .now) _ (le-ltb _ _ (c .before .before .before .before .before .if1 .left)) (sym (c .before .before .before .before .short-work .ensures) ∙ c .before .before .before .if2 .left) (checked-stopped (tablesOf (a .types .now) (a .rows .now) (a .due .now)) (countsOf (a .count) (a .n)) (a .checked) p _ (c .before .checked .given .1))
+    let a = c .before .before .before .before .before .before .before .before .before .before .before .before .args in
+    let p = c .before .before .before .before .before .before .before .before .before .before .before .before .pre in
+    plan-stopped (tablesOf (a .types .now) (a .rows .now) (a .due .now)) (countsOf (a .count) (a .n)) (a .loads .now) (a .times .now) (a .words .now) (a .placement .now) _ (sym (c .before .before .before .before .before .before .short-placement .ensures) ∙ c .before .before .before .before .before .if1 .left) (sym (c .before .before .before .before .short-work .ensures) ∙ c .before .before .before .if2 .left) (checked-stopped (tablesOf (a .types .now) (a .rows .now) (a .due .now)) (countsOf (a .count) (a .n)) (a .checked) p _ (c .before .checked .given .1))
 
 same-length : tie.Need-same-length
 same-length c = search needs
@@ -60,6 +63,7 @@ pub plan-checked-spec : {M : Type 1} → statement M
 plan-checked-spec =
     tie.close
     (tie.spec
+    short-placement-requires
     returns
     short-work-requires
     returns-2

@@ -49,35 +49,25 @@ use denote.Triple.Walked.{says, needs, Stays, stay-slice, stay-none, stay-none-s
 use denote.Triple.Cycle.{Stated, Graded, measured, at-on, mutual-elim}
 use Rattle.runs.proofs.Lending.{at-list, Slice, calls-out, calls-out-last}
 use Rattle.records.specs.Entries.{Plans, Chose}
-use Rattle.records.specs.Planning.{plans-makes, plans-driver, driver-safe, clear-safe, chose}
+use Rattle.records.specs.Planning.{plans-makes, plans-chooses, plans-clears, chose}
 use Rattle.rules.specs.declared.Cand.{Cand}
-use Rattle.runs.specs.declared.turns.Pass.{Pass}
-use Rattle.records.specs.declared.jobs.Job.{Job}
 use Rattle.rules.proofs.Cand as T
 use Rattle.rules.proofs.Cand.Laws as T′
-use Rattle.runs.proofs.turns.Pass as P
-use Rattle.runs.proofs.turns.Pass.Laws as P′
-use Rattle.records.proofs.jobs.Job as J
-use Rattle.records.proofs.jobs.Job.Laws as J′
-use Rattle.records.specs.declared.walk.Kin.{Kin}
-use Rattle.records.proofs.walk.Kin as N
-use Rattle.records.proofs.walk.Kin.Laws as N′
-use Rattle.records.proofs.EntryCalls.{Make, to-make, make-vals, make-says, goes-make, gets-make}
-use Rattle.records.proofs.walk.make.Symbol as make-def
-use Rattle.records.proofs.walk.make.Symbol.{name as #make}
-use Rattle.records.proofs.walk.make.Met as make-thm
-use Rattle.records.proofs.EntryCalls.{DriverPass, to-driver-pass, driver-pass-vals, driver-pass-says, goes-driver-pass, gets-driver-pass}
-use Rattle.records.proofs.driver_pass.Symbol as driver-pass-def
-use Rattle.records.proofs.driver_pass.Symbol.{name as #driver-pass}
-use Rattle.records.proofs.driver_pass.Met as driver-pass-thm
-use Rattle.runs.proofs.Calls.{Sweep, to-sweep, sweep-vals, sweep-says, goes-sweep, gets-sweep}
-use Rattle.runs.proofs.passes.sweep.Symbol as sweep-def
-use Rattle.runs.proofs.passes.sweep.Symbol.{name as #sweep}
-use Rattle.runs.proofs.passes.sweep.Met as sweep-thm
-use Rattle.records.proofs.EntryCalls.{ClearPass, to-clear-pass, clear-pass-vals, clear-pass-says, goes-clear-pass, gets-clear-pass}
-use Rattle.records.proofs.clear_pass.Symbol as clear-pass-def
-use Rattle.records.proofs.clear_pass.Symbol.{name as #clear-pass}
-use Rattle.records.proofs.clear_pass.Met as clear-pass-thm
+use Rattle.turns.specs.declared.Pass.{Pass}
+use Rattle.turns.proofs.Pass as P
+use Rattle.turns.proofs.Pass.Laws as P′
+use Rattle.sights.proofs.SightCalls.{Make, to-make, make-vals, make-says, goes-make, gets-make}
+use Rattle.sights.proofs.make.Symbol as make-def
+use Rattle.sights.proofs.make.Symbol.{name as #make}
+use Rattle.sights.proofs.make.Met as make-thm
+use Rattle.records.proofs.EntryCalls.{Choose, to-choose, choose-vals, choose-says, goes-choose, gets-choose}
+use Rattle.records.proofs.choose.Symbol as choose-def
+use Rattle.records.proofs.choose.Symbol.{name as #choose}
+use Rattle.records.proofs.choose.Met as choose-thm
+use Rattle.records.proofs.EntryCalls.{Clear, to-clear, clear-vals, clear-says, goes-clear, gets-clear}
+use Rattle.records.proofs.clear.Symbol as clear-def
+use Rattle.records.proofs.clear.Symbol.{name as #clear}
+use Rattle.records.proofs.clear.Met as clear-thm
 use Rattle.records.proofs.plan_in.Key.{name as #plan-in}
 use Rattle.records.proofs.plan_in as f
 use Rattle.records.proofs.plan_in.Statement as stated
@@ -118,7 +108,7 @@ module _ {M : Type 1} (𝓤 : URA M) (H : Heap 𝓤) (A : Atoms 𝓤) (W : Given
   exits r zs-run r-is len-run is =
       qed W (‵ (Slice T.the-row b-run o-run κ-run m-run γ-run zs-run) ∷ ‵ (flft κ-run q-run) ∷ ‵ (flft κ-rows q-rows) ∷ ‵ (ShrSlice (named 1) κ-rows u32 .own t-rows (sliceVal (t-rows .ptr) (length (t-rows .now)) ∷ [])) ∷ ‵ (flft κ-due q-due) ∷ ‵ (ShrSlice (named 2) κ-due i64 .own t-due (sliceVal (t-due .ptr) (length (t-due .now)) ∷ [])) ∷ ‵ (flft κ-types q-types) ∷ ‵ (ShrSlice (named 3) κ-types u32 .own t-types (sliceVal (t-types .ptr) (length (t-types .now)) ∷ [])) ∷ []) ∵ suffices ! _ (ends-at 𝓤 H A f.ended stayed (f.clauses 𝓤 H A mem run) W (((κ-run, (κ-rows, (κ-due, (κ-types, tt)))), (q-run, (q-rows, (q-due, (q-types, tt)))), tt, handed, machine), tt) (LL.val P.the-type P′.the-laws r) r (zs-run, (tt, (tt, (tt, (tt, (tt, tt)))))) (len-run, (tt, (tt, (tt, (tt, (tt, tt))))))) $ says ! is $ nothing ! $ move ! (7 ∷ 0 ∷ []) $ join ! $ move ! (5 ∷ 0 ∷ []) $ join ! $ move ! (3 ∷ 0 ∷ []) $ join ! $ move ! (2 ∷ 0 ∷ []) $ join ! $ frame ! $ nothing ! $ owned ! usize (Is usize) (uint-makes 𝓤 H A W w64) n _ (refl, n-fits) $ fjoin ! $ owned ! usize (Is usize) (uint-makes 𝓤 H A W w64) count _ (refl, count-fits) $ fjoin ! $ move ! (4 ∷ 0 ∷ []) $ fjoin ! $ move ! (3 ∷ 0 ∷ []) $ fjoin ! $ move ! (2 ∷ 0 ∷ []) $ fjoin ! $ move ! (1 ∷ 0 ∷ []) $ fjoin ! $ frame ! $ owned ! P.the-row (Is P.the-row) (LL.makes P.the-type P′.the-plain 𝓤 H A) r _ r-is $ done !
 
-  module _ (𝓣 : Tables 𝓤 H) (known-make : Triple 𝓤 (𝓣 .C #make) (Make 𝓤 H A mem run)) (known-driver-pass : Triple 𝓤 (𝓣 .C #driver-pass) (DriverPass 𝓤 H A mem run)) (known-sweep : Triple 𝓤 (𝓣 .C #sweep) (Sweep 𝓤 H A mem run)) (known-clear-pass : Triple 𝓤 (𝓣 .C #clear-pass) (ClearPass 𝓤 H A mem run)) where
+  module _ (𝓣 : Tables 𝓤 H) (known-make : Triple 𝓤 (𝓣 .C #make) (Make 𝓤 H A mem run)) (known-choose : Triple 𝓤 (𝓣 .C #choose) (Choose 𝓤 H A mem run)) (known-clear : Triple 𝓤 (𝓣 .C #clear) (Clear 𝓤 H A mem run)) where
     abbrev C : Calls 𝓤 H
     C = 𝓣 .C
 
@@ -128,19 +118,19 @@ module _ {M : Type 1} (𝓤 : URA M) (H : Heap 𝓤) (A : Atoms 𝓤) (W : Given
     abbrev fm : FmC 𝓤 H (W .laws) (𝓣 .C)
     fm = fmOf 𝓤 H (W .laws) 𝓣
 
-    module _ (l₀ l₁ l₂ l₃ l₄ l₅ l₆ l₇ l₈ l₉ l₁₀ l₁₁ l₁₂ l₁₃ l₁₄ l₁₅ l₁₆ l₁₇ : ℕ) where
+    module _ (l₀ l₁ l₂ l₃ l₄ l₅ l₆ l₇ l₈ l₉ l₁₀ l₁₁ l₁₂ l₁₃ l₁₄ l₁₅ : ℕ) where
       abbrev E : Env 𝓤 H
-      E = (named-ty (114 ∷ 117 ∷ 110 ∷ 115 ∷ 58 ∷ 58 ∷ 116 ∷ 117 ∷ 114 ∷ 110 ∷ 115 ∷ 58 ∷ 58 ∷ 80 ∷ 97 ∷ 115 ∷ 115 ∷ []), l₀) ∷ (sliceTy (tyRef (named 0) mut (pointee (T.the-row .written))), l₁) ∷ (sliceTy (tyRef (named 1) imm (tyInt w32)), l₂) ∷ (sliceTy (tyRef (named 2) imm (tyInt w64)), l₃) ∷ (sliceTy (tyRef (named 3) imm (tyInt w32)), l₄) ∷ (tyInt w64, l₅) ∷ (tyInt w64, l₆) ∷ (tyInt w64, l₇) ∷ (named-ty (114 ∷ 117 ∷ 110 ∷ 115 ∷ 58 ∷ 58 ∷ 116 ∷ 117 ∷ 114 ∷ 110 ∷ 115 ∷ 58 ∷ 58 ∷ 80 ∷ 97 ∷ 115 ∷ 115 ∷ []), l₈) ∷ (named-ty (114 ∷ 117 ∷ 110 ∷ 115 ∷ 58 ∷ 58 ∷ 116 ∷ 117 ∷ 114 ∷ 110 ∷ 115 ∷ 58 ∷ 58 ∷ 80 ∷ 97 ∷ 115 ∷ 115 ∷ []), l₉) ∷ (named-ty (114 ∷ 117 ∷ 110 ∷ 115 ∷ 58 ∷ 58 ∷ 116 ∷ 117 ∷ 114 ∷ 110 ∷ 115 ∷ 58 ∷ 58 ∷ 80 ∷ 97 ∷ 115 ∷ 115 ∷ []), l₁₀) ∷ (tyRef erased mut (pointee (T.the-row .written)), l₁₁) ∷ (sliceTy (tyRef erased mut (pointee (T.the-row .written))), l₁₂) ∷ (tyRef erased mut (pointee (T.the-row .written)), l₁₃) ∷ (sliceTy (tyRef erased mut (pointee (T.the-row .written))), l₁₄) ∷ (named-ty (114 ∷ 117 ∷ 110 ∷ 115 ∷ 58 ∷ 58 ∷ 116 ∷ 117 ∷ 114 ∷ 110 ∷ 115 ∷ 58 ∷ 58 ∷ 80 ∷ 97 ∷ 115 ∷ 115 ∷ []), l₁₅) ∷ (tyRef erased mut (pointee (T.the-row .written)), l₁₆) ∷ (sliceTy (tyRef erased mut (pointee (T.the-row .written))), l₁₇) ∷ []
+      E = (named-ty (116 ∷ 117 ∷ 114 ∷ 110 ∷ 115 ∷ 58 ∷ 58 ∷ 80 ∷ 97 ∷ 115 ∷ 115 ∷ []), l₀) ∷ (sliceTy (tyRef (named 0) mut (pointee (T.the-row .written))), l₁) ∷ (sliceTy (tyRef (named 1) imm (tyInt w32)), l₂) ∷ (sliceTy (tyRef (named 2) imm (tyInt w64)), l₃) ∷ (sliceTy (tyRef (named 3) imm (tyInt w32)), l₄) ∷ (tyInt w64, l₅) ∷ (tyInt w64, l₆) ∷ (tyInt w64, l₇) ∷ (named-ty (116 ∷ 117 ∷ 114 ∷ 110 ∷ 115 ∷ 58 ∷ 58 ∷ 80 ∷ 97 ∷ 115 ∷ 115 ∷ []), l₈) ∷ (tyRef erased mut (pointee (T.the-row .written)), l₉) ∷ (sliceTy (tyRef erased mut (pointee (T.the-row .written))), l₁₀) ∷ (tyRef erased mut (pointee (T.the-row .written)), l₁₁) ∷ (sliceTy (tyRef erased mut (pointee (T.the-row .written))), l₁₂) ∷ (tyUnit, l₁₃) ∷ (tyRef erased mut (pointee (T.the-row .written)), l₁₄) ∷ (sliceTy (tyRef erased mut (pointee (T.the-row .written))), l₁₅) ∷ []
 
     walk : Room T.the-row m-run → Room u32 (length (t-rows .now)) → Room i64 (length (t-due .now)) → Room u32 (length (t-types .now)) → Plans (t-rows .now) (t-due .now) (t-types .now) count n ys-run → ent 𝓤 (onEntry 𝓤 H A f.signature (κ-run, (κ-rows, (κ-due, (κ-types, tt)))) (q-run, (q-rows, (q-due, (q-types, tt)))) handed machine) (WpFn 𝓤 H C Λ code.function (sliceVal (b-run, o-run) m-run ∷ sliceVal (t-rows .ptr) (length (t-rows .now)) ∷ sliceVal (t-due .ptr) (length (t-due .now)) ∷ sliceVal (t-types .ptr) (length (t-types .now)) ∷ vint w64 count ∷ vint w64 n ∷ []) Post)
     walk room-run room-rows room-due room-types pre =
         qed W ((‵ (flft κ-run q-run) ⊛ (‵ (flft κ-rows q-rows) ⊛ (‵ (flft κ-due q-due) ⊛ (‵ (flft κ-types q-types) ⊛ ‵ ftrue)))) ∷ ‵ (owns (MutSlice (named 0) κ-run T.the-row ∷ ShrSlice (named 1) κ-rows u32 ∷ ShrSlice (named 2) κ-due i64 ∷ ShrSlice (named 3) κ-types u32 ∷ usize ∷ usize ∷ []) handed machine) ∷ []) ∵ enter ! C Λ code.function (sliceVal (b-run, o-run) m-run ∷ sliceVal (t-rows .ptr) (length (t-rows .now)) ∷ sliceVal (t-due .ptr) (length (t-due .now)) ∷ sliceVal (t-types .ptr) (length (t-types .now)) ∷ vint w64 count ∷ vint w64 n ∷ []) _ $
-        alloc1 ! (λ l₀. alloc1 ! (λ l₁. alloc1 ! (λ l₂. alloc1 ! (λ l₃. alloc1 ! (λ l₄. alloc1 ! (λ l₅. alloc1 ! (λ l₆. alloc1 ! (λ l₇. alloc1 ! (λ l₈. alloc1 ! (λ l₉. alloc1 ! (λ l₁₀. alloc1 ! (λ l₁₁. alloc1 ! (λ l₁₂. alloc1 ! (λ l₁₃. alloc1 ! (λ l₁₄. alloc1 ! (λ l₁₅. alloc1 ! (λ l₁₆. alloc1 ! (λ l₁₇. alloc0 ! $ params1 ! $ pass1 ! (init ! 32 refl (tt, (tt, (record { fits = room-run .0 }, tt)))) $ pass1 ! (init ! 30 refl (tt, (tt, (record { fits = room-rows .0 }, tt)))) $ pass1 ! (init ! 28 refl (tt, (tt, (record { fits = room-due .0 }, tt)))) $ pass1 ! (init ! 26 refl (tt, (tt, (record { fits = room-types .0 }, tt)))) $ pass1 ! (init ! 24 refl (tt, record { fits = count-fits })) $ pass1 ! (init ! 22 refl (tt, record { fits = n-fits })) $ pass0 ! $ move ! (36 ∷ []) $ split ! $ move ! (1 ∷ []) $ split ! $ move ! (1 ∷ []) $ split ! $ move ! (1 ∷ []) $ split ! $ move ! (41 ∷ []) $ fsplit ! $ move ! (1 ∷ []) $ fsplit ! $ move ! (1 ∷ []) $ fsplit ! $ move ! (1 ∷ []) $ fsplit ! $ move ! (1 ∷ []) $ fsplit ! $ drop ! $ fsplit ! $ drop ! $ drop ! $ move ! (3 ∷ 8 ∷ 5 ∷ 7 ∷ 2 ∷ 6 ∷ 1 ∷ 4 ∷ 0 ∷ []) $ assigns ! (addr ! (from ! (fld ! refl (hop ! (look-in ! 41 (sub ! 0 refl (whole !))) (stop !))))) (from ! (stop !)) (init ! 21 refl (tt, tt)) $ assigns ! (agg ! (and-then ! (load ! (from ! (stop !)) (look ! 21 refl)) (and-then ! (load ! (from ! (fld ! refl (stop !))) (look-in ! 41 (sub ! 1 refl (whole !)))) (no-more !)))) (from ! (stop !)) (init ! 19 refl (tt, (tt, (record { fits = room-run .0 }, tt)))) $ move ! (4 ∷ []) $ use1 W (‵ (ShrSlice (named 1) κ-rows u32 .own t-rows (sliceVal (t-rows .ptr) (length (t-rows .now)) ∷ [])) ⊛ ‵ (ShrSlice (named 1) κ-rows u32 .own t-rows (sliceVal (t-rows .ptr) (length (t-rows .now)) ∷ []))) (shr-slice-copy 𝓤 H A W (named 1) κ-rows u32 .twice t-rows (sliceVal (t-rows .ptr) (length (t-rows .now)) ∷ [])) $ split ! $ move ! (7 ∷ []) $ use1 W (‵ (ShrSlice (named 2) κ-due i64 .own t-due (sliceVal (t-due .ptr) (length (t-due .now)) ∷ [])) ⊛ ‵ (ShrSlice (named 2) κ-due i64 .own t-due (sliceVal (t-due .ptr) (length (t-due .now)) ∷ []))) (shr-slice-copy 𝓤 H A W (named 2) κ-due i64 .twice t-due (sliceVal (t-due .ptr) (length (t-due .now)) ∷ [])) $ split ! $ move ! (10 ∷ []) $ use1 W (‵ (ShrSlice (named 3) κ-types u32 .own t-types (sliceVal (t-types .ptr) (length (t-types .now)) ∷ [])) ⊛ ‵ (ShrSlice (named 3) κ-types u32 .own t-types (sliceVal (t-types .ptr) (length (t-types .now)) ∷ []))) (shr-slice-copy 𝓤 H A W (named 3) κ-types u32 .twice t-types (sliceVal (t-types .ptr) (length (t-types .now)) ∷ [])) $ split ! $ move ! (2 ∷ 0 ∷ []) $ fjoin ! $ move ! (3 ∷ 0 ∷ []) $ fjoin ! $ move ! (9 ∷ 0 ∷ []) $ fjoin ! $ move ! (8 ∷ 0 ∷ []) $ fjoin ! $ move ! (7 ∷ 0 ∷ []) $ fjoin ! $ move ! (4 ∷ 5 ∷ 0 ∷ []) $ calls-out ! fm (fsep (flft κ-rows q-rows) (fsep (flft κ-due q-due) (fsep (flft κ-types q-types) (fsep (ShrSlice (named 1) κ-rows u32 .own t-rows (sliceVal (t-rows .ptr) (length (t-rows .now)) ∷ [])) (fsep (ShrSlice (named 2) κ-due i64 .own t-due (sliceVal (t-due .ptr) (length (t-due .now)) ∷ [])) (ShrSlice (named 3) κ-types u32 .own t-types (sliceVal (t-types .ptr) (length (t-types .now)) ∷ []))))))) (fsep (flft κ-rows q-rows) (fsep (flft κ-due q-due) (flft κ-types q-types))) T.the-row b-run o-run m-run ys-run refl room-run (make-says 𝓤 H A mem run W κ-rows q-rows t-rows κ-due q-due t-due κ-types q-types t-types b-run o-run m-run ys-run count n 0) (λ ν δ. Make 𝓤 H A mem run .pre (to-make 𝓤 H A mem run W κ-rows q-rows t-rows κ-due q-due t-due κ-types q-types t-types b-run o-run m-run ys-run count n 0 ν δ)) (make-vals 𝓤 H A mem run W κ-rows q-rows t-rows κ-due q-due t-due κ-types q-types t-types b-run o-run m-run ys-run count n 0) (λ ν δ w. Make 𝓤 H A mem run .post (to-make 𝓤 H A mem run W κ-rows q-rows t-rows κ-due q-due t-due κ-types q-types t-types b-run o-run m-run ys-run count n 0 ν δ) w) (goes-make 𝓤 H A mem run W κ-rows q-rows t-rows κ-due q-due t-due κ-types q-types t-types b-run o-run m-run ys-run count n 0 (plans-makes (t-rows .now) (t-due .now) (t-types .now) count n ys-run pre) count-fits n-fits (lit< tt)) (λ ν δ. known-make (to-make 𝓤 H A mem run W κ-rows q-rows t-rows κ-due q-due t-due κ-types q-types t-types b-run o-run m-run ys-run count n 0 ν δ)) (gets-make 𝓤 H A mem run W κ-rows q-rows t-rows κ-due q-due t-due κ-types q-types t-types b-run o-run m-run ys-run count n 0 refl) (λ ν δ. and-then ! (load ! (from ! (stop !)) (look ! 16 refl)) (and-then ! (load ! (from ! (stop !)) (look ! 36 refl)) (and-then ! (load ! (from ! (stop !)) (look ! 34 refl)) (and-then ! (load ! (from ! (stop !)) (look ! 32 refl)) (and-then ! (load ! (from ! (stop !)) (look ! 30 refl)) (and-then ! (load ! (from ! (stop !)) (look ! 28 refl)) (and-then ! (lit ! tt) (no-more !)))))))) (λ w₁ r₁ zs₁ len₁ is₁. move ! (2 ∷ []) $ fsplit ! $ move ! (1 ∷ []) $ fsplit ! $ land ! (from ! (stop !)) (init ! 29 refl (typed-as (tyInt w64) w₁ (is₁ .0) (tt, record { fits = is₁ .1 .0 }))) $ rewrite ! 29 (λ (z : Val). ‵ (fat fullShare (tyInt w64) l₇ 0 z)) (is₁ .0) refl $ move ! (7 ∷ []) $ use1 W (‵ (ShrSlice (named 1) κ-rows u32 .own t-rows (sliceVal (t-rows .ptr) (length (t-rows .now)) ∷ [])) ⊛ ‵ (ShrSlice (named 1) κ-rows u32 .own t-rows (sliceVal (t-rows .ptr) (length (t-rows .now)) ∷ []))) (shr-slice-copy 𝓤 H A W (named 1) κ-rows u32 .twice t-rows (sliceVal (t-rows .ptr) (length (t-rows .now)) ∷ [])) $ split ! $ move ! (8 ∷ []) $ use1 W (‵ (ShrSlice (named 2) κ-due i64 .own t-due (sliceVal (t-due .ptr) (length (t-due .now)) ∷ [])) ⊛ ‵ (ShrSlice (named 2) κ-due i64 .own t-due (sliceVal (t-due .ptr) (length (t-due .now)) ∷ []))) (shr-slice-copy 𝓤 H A W (named 2) κ-due i64 .twice t-due (sliceVal (t-due .ptr) (length (t-due .now)) ∷ [])) $ split ! $ move ! (2 ∷ 0 ∷ []) $ fjoin ! $ move ! (3 ∷ 0 ∷ []) $ fjoin ! $ move ! (4 ∷ 0 ∷ []) $ fjoin ! $ use1 W (raw (DriverPass 𝓤 H A mem run .pre (to-driver-pass 𝓤 H A mem run W κ-rows q-rows t-rows κ-due q-due t-due r₁))) (goes-driver-pass 𝓤 H A mem run W κ-rows q-rows t-rows κ-due q-due t-due r₁ (plans-driver (t-rows .now) (t-due .now) (t-types .now) count n ys-run pre) (is₁ .1 .0)) $ calls-at ! fm (DriverPass 𝓤 H A mem run) known-driver-pass (to-driver-pass 𝓤 H A mem run W κ-rows q-rows t-rows κ-due q-due t-due r₁) (and-then ! (load ! (from ! (stop !)) (look ! 38 refl)) (and-then ! (load ! (from ! (stop !)) (look ! 36 refl)) (and-then ! (load ! (from ! (stop !)) (look ! 28 refl)) (no-more !)))) (λ w₂. use1 W (later (some (λ (r : Pass). given (driver-pass-says 𝓤 H A mem run W κ-rows q-rows t-rows κ-due q-due t-due r₁ r w₂) (‵ (fsep (flft κ-rows q-rows) (flft κ-due q-due)))))) (gets-driver-pass 𝓤 H A mem run W κ-rows q-rows t-rows κ-due q-due t-due r₁ w₂) $ await ! tt $ pick ! (λ r₂. learn ! (λ is₂. fsplit ! $ land ! (from ! (stop !)) (init ! 27 refl (typed-as (named-ty (114 ∷ 117 ∷ 110 ∷ 115 ∷ 58 ∷ 58 ∷ 116 ∷ 117 ∷ 114 ∷ 110 ∷ 115 ∷ 58 ∷ 58 ∷ 80 ∷ 97 ∷ 115 ∷ 115 ∷ [])) w₂ (is₂ .0) (LL.lawful P.the-type P′.the-laws 𝓤 H A W .typed r₂ _ (is₂ .1 .0) .0))) $ rewrite ! 27 (λ (z : Val). ‵ (fat fullShare (named-ty (114 ∷ 117 ∷ 110 ∷ 115 ∷ 58 ∷ 58 ∷ 116 ∷ 117 ∷ 114 ∷ 110 ∷ 115 ∷ 58 ∷ 58 ∷ 80 ∷ 97 ∷ 115 ∷ 115 ∷ [])) l₈ 0 z)) (is₂ .0) refl $ assigns ! (addr ! (from ! (fld ! refl (hop ! (look-in ! 41 (sub ! 0 refl (whole !))) (stop !))))) (from ! (stop !)) (init ! 17 refl (tt, tt)) $ assigns ! (agg ! (and-then ! (load ! (from ! (stop !)) (look ! 17 refl)) (and-then ! (load ! (from ! (fld ! refl (stop !))) (look-in ! 41 (sub ! 1 refl (whole !)))) (no-more !)))) (from ! (stop !)) (init ! 15 refl (tt, (tt, (record { fits = room-run .0 }, tt)))) $ move ! (5 ∷ 6 ∷ 8 ∷ []) $ calls-out ! fm (ftrue) (ftrue) T.the-row b-run o-run m-run zs₁ len₁ room-run (sweep-says 𝓤 H A mem run W b-run o-run m-run zs₁ r₂) (λ ν δ. Sweep 𝓤 H A mem run .pre (to-sweep 𝓤 H A mem run W b-run o-run m-run zs₁ r₂ ν δ)) (sweep-vals 𝓤 H A mem run W b-run o-run m-run zs₁ r₂) (λ ν δ w. Sweep 𝓤 H A mem run .post (to-sweep 𝓤 H A mem run W b-run o-run m-run zs₁ r₂ ν δ) w) (goes-sweep 𝓤 H A mem run W b-run o-run m-run zs₁ r₂ (driver-safe (t-rows .now) (t-due .now) (t-types .now) count n ys-run pre zs₁ len₁ r₁ (is₁ .1 .1) r₂ (is₂ .1 .1)) (is₂ .1 .0)) (λ ν δ. known-sweep (to-sweep 𝓤 H A mem run W b-run o-run m-run zs₁ r₂ ν δ)) (gets-sweep 𝓤 H A mem run W b-run o-run m-run zs₁ r₂ len₁) (λ ν δ. and-then ! (load ! (from ! (stop !)) (look ! 14 refl)) (and-then ! (load ! (from ! (stop !)) (look ! 26 refl)) (no-more !))) (λ w₃ r₃ zs₃ len₃ is₃. land ! (from ! (stop !)) (init ! 25 refl (typed-as (named-ty (114 ∷ 117 ∷ 110 ∷ 115 ∷ 58 ∷ 58 ∷ 116 ∷ 117 ∷ 114 ∷ 110 ∷ 115 ∷ 58 ∷ 58 ∷ 80 ∷ 97 ∷ 115 ∷ 115 ∷ [])) w₃ (is₃ .0) (LL.lawful P.the-type P′.the-laws 𝓤 H A W .typed r₃ _ (is₃ .1 .0) .0))) $ rewrite ! 25 (λ (z : Val). ‵ (fat fullShare (named-ty (114 ∷ 117 ∷ 110 ∷ 115 ∷ 58 ∷ 58 ∷ 116 ∷ 117 ∷ 114 ∷ 110 ∷ 115 ∷ 58 ∷ 58 ∷ 80 ∷ 97 ∷ 115 ∷ 115 ∷ [])) l₉ 0 z)) (is₃ .0) refl $ move ! (2 ∷ []) $ use1 W (raw (ClearPass 𝓤 H A mem run .pre (to-clear-pass 𝓤 H A mem run W))) (goes-clear-pass 𝓤 H A mem run W) $ calls-at ! fm (ClearPass 𝓤 H A mem run) known-clear-pass (to-clear-pass 𝓤 H A mem run W) (no-more !) (λ w₄. use1 W (later (some (λ (r : Pass). given (clear-pass-says 𝓤 H A mem run W r w₄) (‵ (ftrue))))) (gets-clear-pass 𝓤 H A mem run W w₄) $ await ! tt $ pick ! (λ r₄. learn ! (λ is₄. land ! (from ! (stop !)) (init ! 23 refl (typed-as (named-ty (114 ∷ 117 ∷ 110 ∷ 115 ∷ 58 ∷ 58 ∷ 116 ∷ 117 ∷ 114 ∷ 110 ∷ 115 ∷ 58 ∷ 58 ∷ 80 ∷ 97 ∷ 115 ∷ 115 ∷ [])) w₄ (is₄ .0) (LL.lawful P.the-type P′.the-laws 𝓤 H A W .typed r₄ _ (is₄ .1 .0) .0))) $ rewrite ! 23 (λ (z : Val). ‵ (fat fullShare (named-ty (114 ∷ 117 ∷ 110 ∷ 115 ∷ 58 ∷ 58 ∷ 116 ∷ 117 ∷ 114 ∷ 110 ∷ 115 ∷ 58 ∷ 58 ∷ 80 ∷ 97 ∷ 115 ∷ 115 ∷ [])) l₁₀ 0 z)) (is₄ .0) refl $ assigns ! (addr ! (from ! (fld ! refl (hop ! (look-in ! 41 (sub ! 0 refl (whole !))) (stop !))))) (from ! (stop !)) (init ! 11 refl (tt, tt)) $ assigns ! (agg ! (and-then ! (load ! (from ! (stop !)) (look ! 11 refl)) (and-then ! (load ! (from ! (fld ! refl (stop !))) (look-in ! 41 (sub ! 1 refl (whole !)))) (no-more !)))) (from ! (stop !)) (init ! 9 refl (tt, (tt, (record { fits = room-run .0 }, tt)))) $ move ! (1 ∷ 2 ∷ 0 ∷ []) $ calls-out ! fm (ftrue) (ftrue) T.the-row b-run o-run m-run zs₃ len₃ room-run (sweep-says 𝓤 H A mem run W b-run o-run m-run zs₃ r₄) (λ ν δ. Sweep 𝓤 H A mem run .pre (to-sweep 𝓤 H A mem run W b-run o-run m-run zs₃ r₄ ν δ)) (sweep-vals 𝓤 H A mem run W b-run o-run m-run zs₃ r₄) (λ ν δ w. Sweep 𝓤 H A mem run .post (to-sweep 𝓤 H A mem run W b-run o-run m-run zs₃ r₄ ν δ) w) (goes-sweep 𝓤 H A mem run W b-run o-run m-run zs₃ r₄ (clear-safe (t-rows .now) (t-due .now) (t-types .now) count n ys-run pre zs₁ len₁ r₁ (is₁ .1 .1) r₂ (is₂ .1 .1) zs₃ len₃ r₃ (is₃ .1 .1) r₄ (is₄ .1 .1)) (is₄ .1 .0)) (λ ν δ. known-sweep (to-sweep 𝓤 H A mem run W b-run o-run m-run zs₃ r₄ ν δ)) (gets-sweep 𝓤 H A mem run W b-run o-run m-run zs₃ r₄ len₃) (λ ν δ. and-then ! (load ! (from ! (stop !)) (look ! 8 refl)) (and-then ! (load ! (from ! (stop !)) (look ! 22 refl)) (no-more !))) (λ w₅ r₅ zs₅ len₅ is₅. land ! (from ! (stop !)) (init ! 13 refl (typed-as (named-ty (114 ∷ 117 ∷ 110 ∷ 115 ∷ 58 ∷ 58 ∷ 116 ∷ 117 ∷ 114 ∷ 110 ∷ 115 ∷ 58 ∷ 58 ∷ 80 ∷ 97 ∷ 115 ∷ 115 ∷ [])) w₅ (is₅ .0) (LL.lawful P.the-type P′.the-laws 𝓤 H A W .typed r₅ _ (is₅ .1 .0) .0))) $ rewrite ! 13 (λ (z : Val). ‵ (fat fullShare (named-ty (114 ∷ 117 ∷ 110 ∷ 115 ∷ 58 ∷ 58 ∷ 116 ∷ 117 ∷ 114 ∷ 110 ∷ 115 ∷ 58 ∷ 58 ∷ 80 ∷ 97 ∷ 115 ∷ 115 ∷ [])) l₁₅ 0 z)) (is₅ .0) refl $ assigns ! (of-opd ! (load ! (from ! (stop !)) (look ! 25 refl))) (from ! (stop !)) (init ! 43 refl (LL.lawful P.the-type P′.the-laws 𝓤 H A W .typed r₃ _ (is₃ .1 .0) .0)) $ returns ! (look ! 43 refl) $ forget ! 9 refl $ forget ! 11 refl $ forget ! 13 refl $ forget ! 15 refl $ forget ! 17 refl $ forget ! 19 refl $ forget ! 21 refl $ forget ! 23 refl $ forget ! 25 refl $ forget ! 27 refl $ forget ! 29 refl $ forget ! 31 refl $ forget ! 33 refl $ forget ! 35 refl $ forget ! 37 refl $ forget ! 39 refl $ forget ! 41 refl $ forget ! 43 refl $ move ! (43 ∷ 44 ∷ []) $ free1 ! $ move ! (41 ∷ 42 ∷ []) $ free1 ! $ move ! (39 ∷ 40 ∷ []) $ free1 ! $ move ! (37 ∷ 38 ∷ []) $ free1 ! $ move ! (35 ∷ 36 ∷ []) $ free1 ! $ move ! (33 ∷ 34 ∷ []) $ free1 ! $ move ! (31 ∷ 32 ∷ []) $ free1 ! $ move ! (29 ∷ 30 ∷ []) $ free1 ! $ move ! (27 ∷ 28 ∷ []) $ free1 ! $ move ! (25 ∷ 26 ∷ []) $ free1 ! $ move ! (23 ∷ 24 ∷ []) $ free1 ! $ move ! (21 ∷ 22 ∷ []) $ free1 ! $ move ! (19 ∷ 20 ∷ []) $ free1 ! $ move ! (17 ∷ 18 ∷ []) $ free1 ! $ move ! (15 ∷ 16 ∷ []) $ free1 ! $ move ! (13 ∷ 14 ∷ []) $ free1 ! $ move ! (11 ∷ 12 ∷ []) $ free1 ! $ move ! (9 ∷ 10 ∷ []) $ free1 ! $ free0 ! $ keep ! (0 ∷ 1 ∷ 3 ∷ 6 ∷ 4 ∷ 5 ∷ 7 ∷ 8 ∷ []) $ by ! (exits r₃ zs₅ (is₃ .1 .0) len₅ (chose (t-rows .now) (t-due .now) (t-types .now) count n ys-run pre zs₁ len₁ r₁ (is₁ .1 .1) r₂ (is₂ .1 .1) zs₃ len₃ r₃ (is₃ .1 .1) r₄ (is₄ .1 .1) zs₅ r₅ (is₅ .1 .1))))))))))))))))))))))))))))))
+        alloc1 ! (λ l₀. alloc1 ! (λ l₁. alloc1 ! (λ l₂. alloc1 ! (λ l₃. alloc1 ! (λ l₄. alloc1 ! (λ l₅. alloc1 ! (λ l₆. alloc1 ! (λ l₇. alloc1 ! (λ l₈. alloc1 ! (λ l₉. alloc1 ! (λ l₁₀. alloc1 ! (λ l₁₁. alloc1 ! (λ l₁₂. alloc1 ! (λ l₁₃. alloc1 ! (λ l₁₄. alloc1 ! (λ l₁₅. alloc0 ! $ params1 ! $ pass1 ! (init ! 28 refl (tt, (tt, (record { fits = room-run .0 }, tt)))) $ pass1 ! (init ! 26 refl (tt, (tt, (record { fits = room-rows .0 }, tt)))) $ pass1 ! (init ! 24 refl (tt, (tt, (record { fits = room-due .0 }, tt)))) $ pass1 ! (init ! 22 refl (tt, (tt, (record { fits = room-types .0 }, tt)))) $ pass1 ! (init ! 20 refl (tt, record { fits = count-fits })) $ pass1 ! (init ! 18 refl (tt, record { fits = n-fits })) $ pass0 ! $ move ! (32 ∷ []) $ split ! $ move ! (1 ∷ []) $ split ! $ move ! (1 ∷ []) $ split ! $ move ! (1 ∷ []) $ split ! $ move ! (37 ∷ []) $ fsplit ! $ move ! (1 ∷ []) $ fsplit ! $ move ! (1 ∷ []) $ fsplit ! $ move ! (1 ∷ []) $ fsplit ! $ move ! (1 ∷ []) $ fsplit ! $ drop ! $ fsplit ! $ drop ! $ drop ! $ move ! (3 ∷ 8 ∷ 5 ∷ 7 ∷ 2 ∷ 6 ∷ 1 ∷ 4 ∷ 0 ∷ []) $ assigns ! (addr ! (from ! (fld ! refl (hop ! (look-in ! 37 (sub ! 0 refl (whole !))) (stop !))))) (from ! (stop !)) (init ! 21 refl (tt, tt)) $ assigns ! (agg ! (and-then ! (load ! (from ! (stop !)) (look ! 21 refl)) (and-then ! (load ! (from ! (fld ! refl (stop !))) (look-in ! 37 (sub ! 1 refl (whole !)))) (no-more !)))) (from ! (stop !)) (init ! 19 refl (tt, (tt, (record { fits = room-run .0 }, tt)))) $ move ! (4 ∷ []) $ use1 W (‵ (ShrSlice (named 1) κ-rows u32 .own t-rows (sliceVal (t-rows .ptr) (length (t-rows .now)) ∷ [])) ⊛ ‵ (ShrSlice (named 1) κ-rows u32 .own t-rows (sliceVal (t-rows .ptr) (length (t-rows .now)) ∷ []))) (shr-slice-copy 𝓤 H A W (named 1) κ-rows u32 .twice t-rows (sliceVal (t-rows .ptr) (length (t-rows .now)) ∷ [])) $ split ! $ move ! (7 ∷ []) $ use1 W (‵ (ShrSlice (named 2) κ-due i64 .own t-due (sliceVal (t-due .ptr) (length (t-due .now)) ∷ [])) ⊛ ‵ (ShrSlice (named 2) κ-due i64 .own t-due (sliceVal (t-due .ptr) (length (t-due .now)) ∷ []))) (shr-slice-copy 𝓤 H A W (named 2) κ-due i64 .twice t-due (sliceVal (t-due .ptr) (length (t-due .now)) ∷ [])) $ split ! $ move ! (10 ∷ []) $ use1 W (‵ (ShrSlice (named 3) κ-types u32 .own t-types (sliceVal (t-types .ptr) (length (t-types .now)) ∷ [])) ⊛ ‵ (ShrSlice (named 3) κ-types u32 .own t-types (sliceVal (t-types .ptr) (length (t-types .now)) ∷ []))) (shr-slice-copy 𝓤 H A W (named 3) κ-types u32 .twice t-types (sliceVal (t-types .ptr) (length (t-types .now)) ∷ [])) $ split ! $ move ! (2 ∷ 0 ∷ []) $ fjoin ! $ move ! (3 ∷ 0 ∷ []) $ fjoin ! $ move ! (9 ∷ 0 ∷ []) $ fjoin ! $ move ! (8 ∷ 0 ∷ []) $ fjoin ! $ move ! (7 ∷ 0 ∷ []) $ fjoin ! $ move ! (4 ∷ 5 ∷ 0 ∷ []) $ calls-out ! fm (fsep (flft κ-rows q-rows) (fsep (flft κ-due q-due) (fsep (flft κ-types q-types) (fsep (ShrSlice (named 1) κ-rows u32 .own t-rows (sliceVal (t-rows .ptr) (length (t-rows .now)) ∷ [])) (fsep (ShrSlice (named 2) κ-due i64 .own t-due (sliceVal (t-due .ptr) (length (t-due .now)) ∷ [])) (ShrSlice (named 3) κ-types u32 .own t-types (sliceVal (t-types .ptr) (length (t-types .now)) ∷ []))))))) (fsep (flft κ-rows q-rows) (fsep (flft κ-due q-due) (flft κ-types q-types))) T.the-row b-run o-run m-run ys-run refl room-run (make-says 𝓤 H A mem run W κ-rows q-rows t-rows κ-due q-due t-due κ-types q-types t-types b-run o-run m-run ys-run count n 0) (λ ν δ. Make 𝓤 H A mem run .pre (to-make 𝓤 H A mem run W κ-rows q-rows t-rows κ-due q-due t-due κ-types q-types t-types b-run o-run m-run ys-run count n 0 ν δ)) (make-vals 𝓤 H A mem run W κ-rows q-rows t-rows κ-due q-due t-due κ-types q-types t-types b-run o-run m-run ys-run count n 0) (λ ν δ w. Make 𝓤 H A mem run .post (to-make 𝓤 H A mem run W κ-rows q-rows t-rows κ-due q-due t-due κ-types q-types t-types b-run o-run m-run ys-run count n 0 ν δ) w) (goes-make 𝓤 H A mem run W κ-rows q-rows t-rows κ-due q-due t-due κ-types q-types t-types b-run o-run m-run ys-run count n 0 (plans-makes (t-rows .now) (t-due .now) (t-types .now) count n ys-run pre) count-fits n-fits (lit< tt)) (λ ν δ. known-make (to-make 𝓤 H A mem run W κ-rows q-rows t-rows κ-due q-due t-due κ-types q-types t-types b-run o-run m-run ys-run count n 0 ν δ)) (gets-make 𝓤 H A mem run W κ-rows q-rows t-rows κ-due q-due t-due κ-types q-types t-types b-run o-run m-run ys-run count n 0 refl) (λ ν δ. and-then ! (load ! (from ! (stop !)) (look ! 16 refl)) (and-then ! (load ! (from ! (stop !)) (look ! 32 refl)) (and-then ! (load ! (from ! (stop !)) (look ! 30 refl)) (and-then ! (load ! (from ! (stop !)) (look ! 28 refl)) (and-then ! (load ! (from ! (stop !)) (look ! 26 refl)) (and-then ! (load ! (from ! (stop !)) (look ! 24 refl)) (and-then ! (lit ! tt) (no-more !)))))))) (λ w₁ r₁ zs₁ len₁ is₁. move ! (2 ∷ []) $ fsplit ! $ move ! (1 ∷ []) $ fsplit ! $ land ! (from ! (stop !)) (init ! 25 refl (typed-as (tyInt w64) w₁ (is₁ .0) (tt, record { fits = is₁ .1 .0 }))) $ rewrite ! 25 (λ (z : Val). ‵ (fat fullShare (tyInt w64) l₇ 0 z)) (is₁ .0) refl $ assigns ! (addr ! (from ! (fld ! refl (hop ! (look-in ! 37 (sub ! 0 refl (whole !))) (stop !))))) (from ! (stop !)) (init ! 17 refl (tt, tt)) $ assigns ! (agg ! (and-then ! (load ! (from ! (stop !)) (look ! 17 refl)) (and-then ! (load ! (from ! (fld ! refl (stop !))) (look-in ! 37 (sub ! 1 refl (whole !)))) (no-more !)))) (from ! (stop !)) (init ! 15 refl (tt, (tt, (record { fits = room-run .0 }, tt)))) $ move ! (7 ∷ []) $ use1 W (‵ (ShrSlice (named 1) κ-rows u32 .own t-rows (sliceVal (t-rows .ptr) (length (t-rows .now)) ∷ [])) ⊛ ‵ (ShrSlice (named 1) κ-rows u32 .own t-rows (sliceVal (t-rows .ptr) (length (t-rows .now)) ∷ []))) (shr-slice-copy 𝓤 H A W (named 1) κ-rows u32 .twice t-rows (sliceVal (t-rows .ptr) (length (t-rows .now)) ∷ [])) $ split ! $ move ! (8 ∷ []) $ use1 W (‵ (ShrSlice (named 2) κ-due i64 .own t-due (sliceVal (t-due .ptr) (length (t-due .now)) ∷ [])) ⊛ ‵ (ShrSlice (named 2) κ-due i64 .own t-due (sliceVal (t-due .ptr) (length (t-due .now)) ∷ []))) (shr-slice-copy 𝓤 H A W (named 2) κ-due i64 .twice t-due (sliceVal (t-due .ptr) (length (t-due .now)) ∷ [])) $ split ! $ move ! (2 ∷ 0 ∷ []) $ fjoin ! $ move ! (3 ∷ 0 ∷ []) $ fjoin ! $ move ! (4 ∷ 0 ∷ []) $ fjoin ! $ move ! (4 ∷ 5 ∷ 0 ∷ []) $ calls-out ! fm (fsep (flft κ-rows q-rows) (fsep (flft κ-due q-due) (fsep (ShrSlice (named 1) κ-rows u32 .own t-rows (sliceVal (t-rows .ptr) (length (t-rows .now)) ∷ [])) (ShrSlice (named 2) κ-due i64 .own t-due (sliceVal (t-due .ptr) (length (t-due .now)) ∷ []))))) (fsep (flft κ-rows q-rows) (flft κ-due q-due)) T.the-row b-run o-run m-run zs₁ len₁ room-run (choose-says 𝓤 H A mem run W κ-rows q-rows t-rows κ-due q-due t-due b-run o-run m-run zs₁ r₁) (λ ν δ. Choose 𝓤 H A mem run .pre (to-choose 𝓤 H A mem run W κ-rows q-rows t-rows κ-due q-due t-due b-run o-run m-run zs₁ r₁ ν δ)) (choose-vals 𝓤 H A mem run W κ-rows q-rows t-rows κ-due q-due t-due b-run o-run m-run zs₁ r₁) (λ ν δ w. Choose 𝓤 H A mem run .post (to-choose 𝓤 H A mem run W κ-rows q-rows t-rows κ-due q-due t-due b-run o-run m-run zs₁ r₁ ν δ) w) (goes-choose 𝓤 H A mem run W κ-rows q-rows t-rows κ-due q-due t-due b-run o-run m-run zs₁ r₁ (plans-chooses (t-rows .now) (t-due .now) (t-types .now) count n ys-run pre zs₁ len₁ r₁ (is₁ .1 .1)) (is₁ .1 .0)) (λ ν δ. known-choose (to-choose 𝓤 H A mem run W κ-rows q-rows t-rows κ-due q-due t-due b-run o-run m-run zs₁ r₁ ν δ)) (gets-choose 𝓤 H A mem run W κ-rows q-rows t-rows κ-due q-due t-due b-run o-run m-run zs₁ r₁ len₁) (λ ν δ. and-then ! (load ! (from ! (stop !)) (look ! 13 refl)) (and-then ! (load ! (from ! (stop !)) (look ! 33 refl)) (and-then ! (load ! (from ! (stop !)) (look ! 31 refl)) (and-then ! (load ! (from ! (stop !)) (look ! 23 refl)) (no-more !))))) (λ w₂ r₂ zs₂ len₂ is₂. move ! (2 ∷ []) $ fsplit ! $ land ! (from ! (stop !)) (init ! 23 refl (typed-as (named-ty (116 ∷ 117 ∷ 114 ∷ 110 ∷ 115 ∷ 58 ∷ 58 ∷ 80 ∷ 97 ∷ 115 ∷ 115 ∷ [])) w₂ (is₂ .0) (LL.lawful P.the-type P′.the-laws 𝓤 H A W .typed r₂ _ (is₂ .1 .0) .0))) $ rewrite ! 23 (λ (z : Val). ‵ (fat fullShare (named-ty (116 ∷ 117 ∷ 114 ∷ 110 ∷ 115 ∷ 58 ∷ 58 ∷ 80 ∷ 97 ∷ 115 ∷ 115 ∷ [])) l₈ 0 z)) (is₂ .0) refl $ assigns ! (addr ! (from ! (fld ! refl (hop ! (look-in ! 37 (sub ! 0 refl (whole !))) (stop !))))) (from ! (stop !)) (init ! 11 refl (tt, tt)) $ assigns ! (agg ! (and-then ! (load ! (from ! (stop !)) (look ! 11 refl)) (and-then ! (load ! (from ! (fld ! refl (stop !))) (look-in ! 37 (sub ! 1 refl (whole !)))) (no-more !)))) (from ! (stop !)) (init ! 9 refl (tt, (tt, (record { fits = room-run .0 }, tt)))) $ move ! (2 ∷ 3 ∷ 8 ∷ []) $ calls-out ! fm (ftrue) (ftrue) T.the-row b-run o-run m-run zs₂ len₂ room-run (clear-says 𝓤 H A mem run W b-run o-run m-run zs₂) (λ ν δ. Clear 𝓤 H A mem run .pre (to-clear 𝓤 H A mem run W b-run o-run m-run zs₂ ν δ)) (clear-vals 𝓤 H A mem run W b-run o-run m-run zs₂) (λ ν δ w. Clear 𝓤 H A mem run .post (to-clear 𝓤 H A mem run W b-run o-run m-run zs₂ ν δ) w) (goes-clear 𝓤 H A mem run W b-run o-run m-run zs₂ (plans-clears (t-rows .now) (t-due .now) (t-types .now) count n ys-run pre zs₁ len₁ r₁ (is₁ .1 .1) zs₂ len₂ r₂ (is₂ .1 .1))) (λ ν δ. known-clear (to-clear 𝓤 H A mem run W b-run o-run m-run zs₂ ν δ)) (gets-clear 𝓤 H A mem run W b-run o-run m-run zs₂ len₂) (λ ν δ. and-then ! (load ! (from ! (stop !)) (look ! 8 refl)) (no-more !)) (λ w₃ r₃ zs₃ len₃ is₃. land ! (from ! (stop !)) (init ! 13 refl (typed-as (tyUnit) w₃ (is₃ .0) (tt, tt))) $ rewrite ! 13 (λ (z : Val). ‵ (fat fullShare (tyUnit) l₁₃ 0 z)) (is₃ .0) refl $ assigns ! (of-opd ! (load ! (from ! (stop !)) (look ! 23 refl))) (from ! (stop !)) (init ! 39 refl (LL.lawful P.the-type P′.the-laws 𝓤 H A W .typed r₂ _ (is₂ .1 .0) .0)) $ returns ! (look ! 39 refl) $ forget ! 9 refl $ forget ! 11 refl $ forget ! 13 refl $ forget ! 15 refl $ forget ! 17 refl $ forget ! 19 refl $ forget ! 21 refl $ forget ! 23 refl $ forget ! 25 refl $ forget ! 27 refl $ forget ! 29 refl $ forget ! 31 refl $ forget ! 33 refl $ forget ! 35 refl $ forget ! 37 refl $ forget ! 39 refl $ move ! (39 ∷ 40 ∷ []) $ free1 ! $ move ! (37 ∷ 38 ∷ []) $ free1 ! $ move ! (35 ∷ 36 ∷ []) $ free1 ! $ move ! (33 ∷ 34 ∷ []) $ free1 ! $ move ! (31 ∷ 32 ∷ []) $ free1 ! $ move ! (29 ∷ 30 ∷ []) $ free1 ! $ move ! (27 ∷ 28 ∷ []) $ free1 ! $ move ! (25 ∷ 26 ∷ []) $ free1 ! $ move ! (23 ∷ 24 ∷ []) $ free1 ! $ move ! (21 ∷ 22 ∷ []) $ free1 ! $ move ! (19 ∷ 20 ∷ []) $ free1 ! $ move ! (17 ∷ 18 ∷ []) $ free1 ! $ move ! (15 ∷ 16 ∷ []) $ free1 ! $ move ! (13 ∷ 14 ∷ []) $ free1 ! $ move ! (11 ∷ 12 ∷ []) $ free1 ! $ move ! (9 ∷ 10 ∷ []) $ free1 ! $ free0 ! $ keep ! (0 ∷ 1 ∷ 3 ∷ 6 ∷ 4 ∷ 5 ∷ 7 ∷ 8 ∷ []) $ by ! (exits r₂ zs₃ (is₂ .1 .0) len₃ (chose (t-rows .now) (t-due .now) (t-types .now) count n ys-run pre zs₁ len₁ r₁ (is₁ .1 .1) zs₂ len₂ r₂ (is₂ .1 .1) zs₃ (is₃ .1 .1))))))))))))))))))))))
 
-module _ {M : Type 1} (𝓤 : URA M) (H : Heap 𝓤) (A : Atoms 𝓤) (W : Given 𝓤 H A) (mem : Memory → SProp 𝓤) (run : Routine → Fun 𝓤) (𝓣 : Tables 𝓤 H) (known-make : Triple 𝓤 (𝓣 .C #make) (Make 𝓤 H A mem run)) (known-driver-pass : Triple 𝓤 (𝓣 .C #driver-pass) (DriverPass 𝓤 H A mem run)) (known-sweep : Triple 𝓤 (𝓣 .C #sweep) (Sweep 𝓤 H A mem run)) (known-clear-pass : Triple 𝓤 (𝓣 .C #clear-pass) (ClearPass 𝓤 H A mem run)) where
+module _ {M : Type 1} (𝓤 : URA M) (H : Heap 𝓤) (A : Atoms 𝓤) (W : Given 𝓤 H A) (mem : Memory → SProp 𝓤) (run : Routine → Fun 𝓤) (𝓣 : Tables 𝓤 H) (known-make : Triple 𝓤 (𝓣 .C #make) (Make 𝓤 H A mem run)) (known-choose : Triple 𝓤 (𝓣 .C #choose) (Choose 𝓤 H A mem run)) (known-clear : Triple 𝓤 (𝓣 .C #clear) (Clear 𝓤 H A mem run)) where
   plan-in-walks : Walks 𝓤 H A f.ended stayed (WpFn 𝓤 H (𝓣 .C) (𝓣 .Λ) code.function) (f.clauses 𝓤 H A mem run)
   plan-in-walks = walked 𝓤 H A f.ended stayed (f.clauses 𝓤 H A mem run) (WpFn 𝓤 H (𝓣 .C) (𝓣 .Λ) code.function) (λ κs. (slice-vals, (slice-vals, (slice-vals, (slice-vals, (uint-vals w64, (uint-vals w64, tt))))))) (λ κs. (mut-slice-tells (named 0) (κs .0) T.the-row, (shr-slice-tells (named 1) (κs .1 .0) u32, (shr-slice-tells (named 2) (κs .1 .1 .0) i64, (shr-slice-tells (named 3) (κs .1 .1 .1 .0) u32, (uint-tells w64, (uint-tells w64, tt)))))))
-      (λ κs qs bounds a g are. needs 𝓤 (Plans (a .1 .0 .now) (a .1 .1 .0 .now) (a .1 .1 .1 .0 .now) (a .1 .1 .1 .1 .0) (a .1 .1 .1 .1 .1 .0) (a .0 .now)) _ (walk 𝓤 H A W mem run (κs .0) (qs .0) (a .0 .ptr .0) (a .0 .ptr .1) (a .0 .name) (a .0 .now) (κs .1 .0) (qs .1 .0) (a .1 .0) (κs .1 .1 .0) (qs .1 .1 .0) (a .1 .1 .0) (κs .1 .1 .1 .0) (qs .1 .1 .1 .0) (a .1 .1 .1 .0) (a .1 .1 .1 .1 .0) (a .1 .1 .1 .1 .1 .0) (are .1 .1 .1 .1 .0 .1) (are .1 .1 .1 .1 .1 .0 .1) 𝓣 known-make known-driver-pass known-sweep known-clear-pass (are .0 .0 .1) (are .1 .0 .0 .1) (are .1 .1 .0 .0 .1) (are .1 .1 .1 .0 .0 .1)))
+      (λ κs qs bounds a g are. needs 𝓤 (Plans (a .1 .0 .now) (a .1 .1 .0 .now) (a .1 .1 .1 .0 .now) (a .1 .1 .1 .1 .0) (a .1 .1 .1 .1 .1 .0) (a .0 .now)) _ (walk 𝓤 H A W mem run (κs .0) (qs .0) (a .0 .ptr .0) (a .0 .ptr .1) (a .0 .name) (a .0 .now) (κs .1 .0) (qs .1 .0) (a .1 .0) (κs .1 .1 .0) (qs .1 .1 .0) (a .1 .1 .0) (κs .1 .1 .1 .0) (qs .1 .1 .1 .0) (a .1 .1 .1 .0) (a .1 .1 .1 .1 .0) (a .1 .1 .1 .1 .1 .0) (are .1 .1 .1 .1 .0 .1) (are .1 .1 .1 .1 .1 .0 .1) 𝓣 known-make known-choose known-clear (are .0 .0 .1) (are .1 .0 .0 .1) (are .1 .1 .0 .0 .1) (are .1 .1 .1 .0 .0 .1)))
 
   plan-in-meets : Meets 𝓤 H A f.signature (WpFn 𝓤 H (𝓣 .C) (𝓣 .Λ) code.function) (f.spec 𝓤 H A mem run)
   plan-in-meets =
@@ -153,7 +143,6 @@ plan-in-spec 𝓤 H 𝓜 𝓖 𝓡 =
     entered 𝓤 H (tripleOf 𝓤 H (𝓖 .A) f.signature (f.spec 𝓤 H (𝓖 .A) (𝓜 .mem) (𝓡 .run)))
     (tables 𝓤 H 𝓜 𝓡 code.env .C) (tables 𝓤 H 𝓜 𝓡 code.env .Λ) #plan-in code.function (code.unfolded 𝓤 H 𝓜 𝓡)
     (plan-in-meets 𝓤 H (𝓖 .A) (givenOf 𝓤 H 𝓜 𝓖) (𝓜 .mem) (𝓡 .run) (tablesOf 𝓤 H 𝓜 (tables 𝓤 H 𝓜 𝓡 code.env))
-    (cited 𝓤 H (Make 𝓤 H (𝓖 .A) (𝓜 .mem) (𝓡 .run)) 𝓜 𝓡 code.env #make make-def.routine code.calls-records·walk·make (make-thm.met 𝓤 H 𝓜 𝓖 𝓡))
-    (cited 𝓤 H (DriverPass 𝓤 H (𝓖 .A) (𝓜 .mem) (𝓡 .run)) 𝓜 𝓡 code.env #driver-pass driver-pass-def.routine code.calls-records·driver-pass (driver-pass-thm.met 𝓤 H 𝓜 𝓖 𝓡))
-    (cited 𝓤 H (Sweep 𝓤 H (𝓖 .A) (𝓜 .mem) (𝓡 .run)) 𝓜 𝓡 code.env #sweep sweep-def.routine code.calls-runs·passes·sweep (sweep-thm.met 𝓤 H 𝓜 𝓖 𝓡))
-    (cited 𝓤 H (ClearPass 𝓤 H (𝓖 .A) (𝓜 .mem) (𝓡 .run)) 𝓜 𝓡 code.env #clear-pass clear-pass-def.routine code.calls-records·clear-pass (clear-pass-thm.met 𝓤 H 𝓜 𝓖 𝓡)))
+    (cited 𝓤 H (Make 𝓤 H (𝓖 .A) (𝓜 .mem) (𝓡 .run)) 𝓜 𝓡 code.env #make make-def.routine code.calls-sights·make (make-thm.met 𝓤 H 𝓜 𝓖 𝓡))
+    (cited 𝓤 H (Choose 𝓤 H (𝓖 .A) (𝓜 .mem) (𝓡 .run)) 𝓜 𝓡 code.env #choose choose-def.routine code.calls-records·choose (choose-thm.met 𝓤 H 𝓜 𝓖 𝓡))
+    (cited 𝓤 H (Clear 𝓤 H (𝓖 .A) (𝓜 .mem) (𝓡 .run)) 𝓜 𝓡 code.env #clear clear-def.routine code.calls-records·clear (clear-thm.met 𝓤 H 𝓜 𝓖 𝓡)))

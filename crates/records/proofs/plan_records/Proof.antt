@@ -56,39 +56,25 @@ use Rattle.rules.proofs.Planning as Q
 use Rattle.rules.proofs.Planning.Laws as Q′
 use Rattle.rules.specs.Promises.{PlanPromise, records}
 use Rattle.laws.specs.Checked.{tablesOf as netOf, countsOf}
-use Rattle.records.specs.Planning.{accepted-is, refused-is, verdict-plans, verdict-four, plan-done, plan-refused}
+use Rattle.records.specs.Planning.{verdict-plans, verdict-four, plan-told}
 use Rattle.rules.specs.declared.Cand.{Cand}
-use Rattle.runs.specs.declared.turns.Pass.{Pass}
-use Rattle.records.specs.declared.jobs.Job.{Job}
 use Rattle.rules.proofs.Cand as T
 use Rattle.rules.proofs.Cand.Laws as T′
-use Rattle.runs.proofs.turns.Pass as P
-use Rattle.runs.proofs.turns.Pass.Laws as P′
-use Rattle.records.proofs.jobs.Job as J
-use Rattle.records.proofs.jobs.Job.Laws as J′
-use Rattle.records.specs.declared.walk.Kin.{Kin}
-use Rattle.records.proofs.walk.Kin as N
-use Rattle.records.proofs.walk.Kin.Laws as N′
+use Rattle.turns.specs.declared.Pass.{Pass}
+use Rattle.turns.proofs.Pass as P
+use Rattle.turns.proofs.Pass.Laws as P′
 use Rattle.records.proofs.PlanCalls.{Judge, to-judge, judge-vals, judge-says, goes-judge, gets-judge}
 use Rattle.records.proofs.judge.Symbol as judge-def
 use Rattle.records.proofs.judge.Symbol.{name as #judge}
 use Rattle.records.proofs.judge.Met as judge-thm
-use Rattle.records.proofs.PlanCalls.{RefusedBy, to-refused-by, refused-by-vals, refused-by-says, goes-refused-by, gets-refused-by}
-use Rattle.records.proofs.refused_by.Symbol as refused-by-def
-use Rattle.records.proofs.refused_by.Symbol.{name as #refused-by}
-use Rattle.records.proofs.refused_by.Met as refused-by-thm
-use Rattle.records.proofs.PlanCalls.{IsAccepted, to-is-accepted, is-accepted-vals, is-accepted-says, goes-is-accepted, gets-is-accepted}
-use Rattle.records.proofs.is_accepted.Symbol as is-accepted-def
-use Rattle.records.proofs.is_accepted.Symbol.{name as #is-accepted}
-use Rattle.records.proofs.is_accepted.Met as is-accepted-thm
-use Rattle.records.proofs.EntryCalls.{PlanIn, to-plan-in, plan-in-vals, plan-in-says, goes-plan-in, gets-plan-in}
-use Rattle.records.proofs.plan_in.Symbol as plan-in-def
-use Rattle.records.proofs.plan_in.Symbol.{name as #plan-in}
-use Rattle.records.proofs.plan_in.Met as plan-in-thm
-use Rattle.records.proofs.PlanCalls.{Tell, to-tell, tell-vals, tell-says, goes-tell, gets-tell}
-use Rattle.records.proofs.tell.Symbol as tell-def
-use Rattle.records.proofs.tell.Symbol.{name as #tell}
-use Rattle.records.proofs.tell.Met as tell-thm
+use Rattle.records.proofs.PlanCalls.{PlanIf, to-plan-if, plan-if-vals, plan-if-says, goes-plan-if, gets-plan-if}
+use Rattle.records.proofs.plan_if.Symbol as plan-if-def
+use Rattle.records.proofs.plan_if.Symbol.{name as #plan-if}
+use Rattle.records.proofs.plan_if.Met as plan-if-thm
+use Rattle.records.proofs.PlanCalls.{TellIf, to-tell-if, tell-if-vals, tell-if-says, goes-tell-if, gets-tell-if}
+use Rattle.records.proofs.tell_if.Symbol as tell-if-def
+use Rattle.records.proofs.tell_if.Symbol.{name as #tell-if}
+use Rattle.records.proofs.tell_if.Met as tell-if-thm
 use Rattle.records.proofs.plan_records.Key.{name as #plan-records}
 use Rattle.records.proofs.plan_records as f
 use Rattle.records.proofs.plan_records.Statement as stated
@@ -132,7 +118,7 @@ module _ {M : Type 1} (𝓤 : URA M) (H : Heap 𝓤) (A : Atoms 𝓤) (W : Given
   exits r zs-placement zs-work r-is len-placement len-work is =
       qed W (‵ (Slice u64 b-placement o-placement κ-placement m-placement γ-placement zs-placement) ∷ ‵ (flft κ-placement q-placement) ∷ ‵ (Slice T.the-row b-work o-work κ-work m-work γ-work zs-work) ∷ ‵ (flft κ-work q-work) ∷ ‵ (flft κ-types q-types) ∷ ‵ (ShrSlice (named 0) κ-types u32 .own t-types (sliceVal (t-types .ptr) (length (t-types .now)) ∷ [])) ∷ ‵ (flft κ-rows q-rows) ∷ ‵ (ShrSlice (named 1) κ-rows u32 .own t-rows (sliceVal (t-rows .ptr) (length (t-rows .now)) ∷ [])) ∷ ‵ (flft κ-due q-due) ∷ ‵ (ShrSlice (named 2) κ-due i64 .own t-due (sliceVal (t-due .ptr) (length (t-due .now)) ∷ [])) ∷ []) ∵ suffices ! _ (ends-at 𝓤 H A f.ended stayed (f.clauses 𝓤 H A mem run) W (((κ-types, (κ-rows, (κ-due, (κ-placement, (κ-work, tt))))), (q-types, (q-rows, (q-due, (q-placement, (q-work, tt))))), tt, handed, machine), tt) (EL.val Q.the-type Q′.the-laws r) r (tt, (tt, (tt, (tt, (tt, (zs-placement, (zs-work, tt))))))) (tt, (tt, (tt, (tt, (tt, (len-placement, (len-work, tt)))))))) $ says ! is $ nothing ! $ move ! (4 ∷ 0 ∷ []) $ join ! $ move ! (2 ∷ 0 ∷ []) $ join ! $ move ! (7 ∷ 0 ∷ []) $ join ! $ move ! (5 ∷ 0 ∷ []) $ join ! $ move ! (3 ∷ 0 ∷ []) $ join ! $ frame ! $ nothing ! $ move ! (2 ∷ 0 ∷ []) $ fjoin ! $ move ! (1 ∷ 0 ∷ []) $ fjoin ! $ owned ! usize (Is usize) (uint-makes 𝓤 H A W w64) rc _ (refl, rc-fits) $ fjoin ! $ owned ! usize (Is usize) (uint-makes 𝓤 H A W w64) tc _ (refl, tc-fits) $ fjoin ! $ move ! (3 ∷ 0 ∷ []) $ fjoin ! $ move ! (2 ∷ 0 ∷ []) $ fjoin ! $ move ! (1 ∷ 0 ∷ []) $ fjoin ! $ frame ! $ owned ! Q.the-row (Is Q.the-row) (EL.makes Q.the-type Q′.the-plain 𝓤 H A) r _ r-is $ done !
 
-  module _ (𝓣 : Tables 𝓤 H) (known-judge : Triple 𝓤 (𝓣 .C #judge) (Judge 𝓤 H A mem run)) (known-refused-by : Triple 𝓤 (𝓣 .C #refused-by) (RefusedBy 𝓤 H A mem run)) (known-is-accepted : Triple 𝓤 (𝓣 .C #is-accepted) (IsAccepted 𝓤 H A mem run)) (known-plan-in : Triple 𝓤 (𝓣 .C #plan-in) (PlanIn 𝓤 H A mem run)) (known-tell : Triple 𝓤 (𝓣 .C #tell) (Tell 𝓤 H A mem run)) where
+  module _ (𝓣 : Tables 𝓤 H) (known-judge : Triple 𝓤 (𝓣 .C #judge) (Judge 𝓤 H A mem run)) (known-plan-if : Triple 𝓤 (𝓣 .C #plan-if) (PlanIf 𝓤 H A mem run)) (known-tell-if : Triple 𝓤 (𝓣 .C #tell-if) (TellIf 𝓤 H A mem run)) where
     abbrev C : Calls 𝓤 H
     C = 𝓣 .C
 
@@ -142,19 +128,19 @@ module _ {M : Type 1} (𝓤 : URA M) (H : Heap 𝓤) (A : Atoms 𝓤) (W : Given
     abbrev fm : FmC 𝓤 H (W .laws) (𝓣 .C)
     fm = fmOf 𝓤 H (W .laws) 𝓣
 
-    module _ (l₀ l₁ l₂ l₃ l₄ l₅ l₆ l₇ l₈ l₉ l₁₀ l₁₁ l₁₂ l₁₃ l₁₄ l₁₅ l₁₆ l₁₇ : ℕ) where
+    module _ (l₀ l₁ l₂ l₃ l₄ l₅ l₆ l₇ l₈ l₉ l₁₀ l₁₁ l₁₂ l₁₃ l₁₄ l₁₅ : ℕ) where
       abbrev E : Env 𝓤 H
-      E = (named-ty (114 ∷ 117 ∷ 108 ∷ 101 ∷ 115 ∷ 58 ∷ 58 ∷ 80 ∷ 108 ∷ 97 ∷ 110 ∷ 110 ∷ 105 ∷ 110 ∷ 103 ∷ []), l₀) ∷ (sliceTy (tyRef (named 0) imm (tyInt w32)), l₁) ∷ (sliceTy (tyRef (named 1) imm (tyInt w32)), l₂) ∷ (sliceTy (tyRef (named 2) imm (tyInt w64)), l₃) ∷ (tyInt w64, l₄) ∷ (tyInt w64, l₅) ∷ (sliceTy (tyRef (named 3) mut (tyInt w64)), l₆) ∷ (sliceTy (tyRef (named 4) mut (pointee (T.the-row .written))), l₇) ∷ (named-ty (114 ∷ 117 ∷ 108 ∷ 101 ∷ 115 ∷ 58 ∷ 58 ∷ 67 ∷ 104 ∷ 101 ∷ 99 ∷ 107 ∷ 105 ∷ 110 ∷ 103 ∷ []), l₈) ∷ (named-ty (114 ∷ 117 ∷ 108 ∷ 101 ∷ 115 ∷ 58 ∷ 58 ∷ 80 ∷ 108 ∷ 97 ∷ 110 ∷ 110 ∷ 105 ∷ 110 ∷ 103 ∷ []), l₉) ∷ (named-ty (114 ∷ 117 ∷ 110 ∷ 115 ∷ 58 ∷ 58 ∷ 116 ∷ 117 ∷ 114 ∷ 110 ∷ 115 ∷ 58 ∷ 58 ∷ 80 ∷ 97 ∷ 115 ∷ 115 ∷ []), l₁₀) ∷ (tyInt w64, l₁₁) ∷ (tyInt w64, l₁₂) ∷ (tyBool, l₁₃) ∷ (tyRef erased mut (pointee (T.the-row .written)), l₁₄) ∷ (sliceTy (tyRef erased mut (pointee (T.the-row .written))), l₁₅) ∷ (tyRef erased mut (tyInt w64), l₁₆) ∷ (sliceTy (tyRef erased mut (tyInt w64)), l₁₇) ∷ []
+      E = (named-ty (114 ∷ 117 ∷ 108 ∷ 101 ∷ 115 ∷ 58 ∷ 58 ∷ 80 ∷ 108 ∷ 97 ∷ 110 ∷ 110 ∷ 105 ∷ 110 ∷ 103 ∷ []), l₀) ∷ (sliceTy (tyRef (named 0) imm (tyInt w32)), l₁) ∷ (sliceTy (tyRef (named 1) imm (tyInt w32)), l₂) ∷ (sliceTy (tyRef (named 2) imm (tyInt w64)), l₃) ∷ (tyInt w64, l₄) ∷ (tyInt w64, l₅) ∷ (sliceTy (tyRef (named 3) mut (tyInt w64)), l₆) ∷ (sliceTy (tyRef (named 4) mut (pointee (T.the-row .written))), l₇) ∷ (named-ty (114 ∷ 117 ∷ 108 ∷ 101 ∷ 115 ∷ 58 ∷ 58 ∷ 67 ∷ 104 ∷ 101 ∷ 99 ∷ 107 ∷ 105 ∷ 110 ∷ 103 ∷ []), l₈) ∷ (named-ty (116 ∷ 117 ∷ 114 ∷ 110 ∷ 115 ∷ 58 ∷ 58 ∷ 80 ∷ 97 ∷ 115 ∷ 115 ∷ []), l₉) ∷ (tyInt w64, l₁₀) ∷ (tyInt w64, l₁₁) ∷ (tyRef erased mut (pointee (T.the-row .written)), l₁₂) ∷ (sliceTy (tyRef erased mut (pointee (T.the-row .written))), l₁₃) ∷ (tyRef erased mut (tyInt w64), l₁₄) ∷ (sliceTy (tyRef erased mut (tyInt w64)), l₁₅) ∷ []
 
     walk : Room u32 (length (t-types .now)) → Room u32 (length (t-rows .now)) → Room i64 (length (t-due .now)) → Room u64 m-placement → Room T.the-row m-work → ent 𝓤 (onEntry 𝓤 H A f.signature (κ-types, (κ-rows, (κ-due, (κ-placement, (κ-work, tt))))) (q-types, (q-rows, (q-due, (q-placement, (q-work, tt))))) handed machine) (WpFn 𝓤 H C Λ code.function (sliceVal (t-types .ptr) (length (t-types .now)) ∷ sliceVal (t-rows .ptr) (length (t-rows .now)) ∷ sliceVal (t-due .ptr) (length (t-due .now)) ∷ vint w64 tc ∷ vint w64 rc ∷ sliceVal (b-placement, o-placement) m-placement ∷ sliceVal (b-work, o-work) m-work ∷ []) Post)
     walk room-types room-rows room-due room-placement room-work =
         qed W ((‵ (flft κ-types q-types) ⊛ (‵ (flft κ-rows q-rows) ⊛ (‵ (flft κ-due q-due) ⊛ (‵ (flft κ-placement q-placement) ⊛ (‵ (flft κ-work q-work) ⊛ ‵ ftrue))))) ∷ ‵ (owns (ShrSlice (named 0) κ-types u32 ∷ ShrSlice (named 1) κ-rows u32 ∷ ShrSlice (named 2) κ-due i64 ∷ usize ∷ usize ∷ MutSlice (named 3) κ-placement u64 ∷ MutSlice (named 4) κ-work T.the-row ∷ []) handed machine) ∷ []) ∵ enter ! C Λ code.function (sliceVal (t-types .ptr) (length (t-types .now)) ∷ sliceVal (t-rows .ptr) (length (t-rows .now)) ∷ sliceVal (t-due .ptr) (length (t-due .now)) ∷ vint w64 tc ∷ vint w64 rc ∷ sliceVal (b-placement, o-placement) m-placement ∷ sliceVal (b-work, o-work) m-work ∷ []) _ $
-        alloc1 ! (λ l₀. alloc1 ! (λ l₁. alloc1 ! (λ l₂. alloc1 ! (λ l₃. alloc1 ! (λ l₄. alloc1 ! (λ l₅. alloc1 ! (λ l₆. alloc1 ! (λ l₇. alloc1 ! (λ l₈. alloc1 ! (λ l₉. alloc1 ! (λ l₁₀. alloc1 ! (λ l₁₁. alloc1 ! (λ l₁₂. alloc1 ! (λ l₁₃. alloc1 ! (λ l₁₄. alloc1 ! (λ l₁₅. alloc1 ! (λ l₁₆. alloc1 ! (λ l₁₇. alloc0 ! $ params1 ! $ pass1 ! (init ! 32 refl (tt, (tt, (record { fits = room-types .0 }, tt)))) $ pass1 ! (init ! 30 refl (tt, (tt, (record { fits = room-rows .0 }, tt)))) $ pass1 ! (init ! 28 refl (tt, (tt, (record { fits = room-due .0 }, tt)))) $ pass1 ! (init ! 26 refl (tt, record { fits = tc-fits })) $ pass1 ! (init ! 24 refl (tt, record { fits = rc-fits })) $ pass1 ! (init ! 22 refl (tt, (tt, (record { fits = room-placement .0 }, tt)))) $ pass1 ! (init ! 20 refl (tt, (tt, (record { fits = room-work .0 }, tt)))) $ pass0 ! $ move ! (36 ∷ []) $ split ! $ move ! (1 ∷ []) $ split ! $ move ! (1 ∷ []) $ split ! $ move ! (1 ∷ []) $ split ! $ move ! (1 ∷ []) $ split ! $ move ! (42 ∷ []) $ fsplit ! $ move ! (1 ∷ []) $ fsplit ! $ move ! (1 ∷ []) $ fsplit ! $ move ! (1 ∷ []) $ fsplit ! $ drop ! $ fsplit ! $ drop ! $ fsplit ! $ move ! (1 ∷ []) $ fsplit ! $ move ! (1 ∷ []) $ drop ! $ move ! (1 ∷ 7 ∷ 0 ∷ 5 ∷ 6 ∷ 10 ∷ 4 ∷ 9 ∷ 3 ∷ 8 ∷ 2 ∷ []) $ assigns ! (of-opd ! (load ! (from ! (fld ! refl (stop !))) (look-in ! 33 (sub ! 1 refl (whole !))))) (from ! (stop !)) (init ! 23 refl (tt, record { fits = room-placement .0 })) $ assigns ! (of-opd ! (load ! (from ! (fld ! refl (stop !))) (look-in ! 31 (sub ! 1 refl (whole !))))) (from ! (stop !)) (init ! 21 refl (tt, record { fits = room-work .0 })) $ move ! (6 ∷ []) $ use1 W (‵ (ShrSlice (named 0) κ-types u32 .own t-types (sliceVal (t-types .ptr) (length (t-types .now)) ∷ [])) ⊛ ‵ (ShrSlice (named 0) κ-types u32 .own t-types (sliceVal (t-types .ptr) (length (t-types .now)) ∷ []))) (shr-slice-copy 𝓤 H A W (named 0) κ-types u32 .twice t-types (sliceVal (t-types .ptr) (length (t-types .now)) ∷ [])) $ split ! $ move ! (9 ∷ []) $ use1 W (‵ (ShrSlice (named 1) κ-rows u32 .own t-rows (sliceVal (t-rows .ptr) (length (t-rows .now)) ∷ [])) ⊛ ‵ (ShrSlice (named 1) κ-rows u32 .own t-rows (sliceVal (t-rows .ptr) (length (t-rows .now)) ∷ []))) (shr-slice-copy 𝓤 H A W (named 1) κ-rows u32 .twice t-rows (sliceVal (t-rows .ptr) (length (t-rows .now)) ∷ [])) $ split ! $ move ! (12 ∷ []) $ use1 W (‵ (ShrSlice (named 2) κ-due i64 .own t-due (sliceVal (t-due .ptr) (length (t-due .now)) ∷ [])) ⊛ ‵ (ShrSlice (named 2) κ-due i64 .own t-due (sliceVal (t-due .ptr) (length (t-due .now)) ∷ []))) (shr-slice-copy 𝓤 H A W (named 2) κ-due i64 .twice t-due (sliceVal (t-due .ptr) (length (t-due .now)) ∷ [])) $ split ! $ move ! (2 ∷ 0 ∷ []) $ fjoin ! $ move ! (3 ∷ 0 ∷ []) $ fjoin ! $ move ! (11 ∷ 0 ∷ []) $ fjoin ! $ move ! (10 ∷ 0 ∷ []) $ fjoin ! $ move ! (9 ∷ 0 ∷ []) $ fjoin ! $ use1 W (raw (Judge 𝓤 H A mem run .pre (to-judge 𝓤 H A mem run W κ-types q-types t-types κ-rows q-rows t-rows κ-due q-due t-due tc rc m-placement m-work))) (goes-judge 𝓤 H A mem run W κ-types q-types t-types κ-rows q-rows t-rows κ-due q-due t-due tc rc m-placement m-work tc-fits rc-fits (room-placement .0) (room-work .0)) $ calls-at ! fm (Judge 𝓤 H A mem run) known-judge (to-judge 𝓤 H A mem run W κ-types q-types t-types κ-rows q-rows t-rows κ-due q-due t-due tc rc m-placement m-work) (and-then ! (load ! (from ! (stop !)) (look ! 41 refl)) (and-then ! (load ! (from ! (stop !)) (look ! 39 refl)) (and-then ! (load ! (from ! (stop !)) (look ! 37 refl)) (and-then ! (load ! (from ! (stop !)) (look ! 35 refl)) (and-then ! (load ! (from ! (stop !)) (look ! 33 refl)) (and-then ! (load ! (from ! (stop !)) (look ! 21 refl)) (and-then ! (load ! (from ! (stop !)) (look ! 19 refl)) (no-more !)))))))) (λ w₁. use1 W (later (some (λ (r : Checking). given (judge-says 𝓤 H A mem run W κ-types q-types t-types κ-rows q-rows t-rows κ-due q-due t-due tc rc m-placement m-work r w₁) (‵ (fsep (flft κ-types q-types) (fsep (flft κ-rows q-rows) (flft κ-due q-due))))))) (gets-judge 𝓤 H A mem run W κ-types q-types t-types κ-rows q-rows t-rows κ-due q-due t-due tc rc m-placement m-work w₁) $ await ! tt $ pick ! (λ r₁. learn ! (λ is₁. fsplit ! $ move ! (1 ∷ []) $ fsplit ! $ land ! (from ! (stop !)) (init ! 29 refl (typed-as (named-ty (114 ∷ 117 ∷ 108 ∷ 101 ∷ 115 ∷ 58 ∷ 58 ∷ 67 ∷ 104 ∷ 101 ∷ 99 ∷ 107 ∷ 105 ∷ 110 ∷ 103 ∷ [])) w₁ (is₁ .0) (EL.lawful Y.the-type Y′.the-laws 𝓤 H A W tt .typed r₁ _ (is₁ .1 .0) .0))) $ rewrite ! 29 (λ (z : Val). ‵ (fat fullShare (named-ty (114 ∷ 117 ∷ 108 ∷ 101 ∷ 115 ∷ 58 ∷ 58 ∷ 67 ∷ 104 ∷ 101 ∷ 99 ∷ 107 ∷ 105 ∷ 110 ∷ 103 ∷ [])) l₈ 0 z)) (is₁ .0) refl $ move ! (10 ∷ []) $ use1 W (raw (RefusedBy 𝓤 H A mem run .pre (to-refused-by 𝓤 H A mem run W r₁))) (goes-refused-by 𝓤 H A mem run W r₁ (is₁ .1 .0)) $ calls-at ! fm (RefusedBy 𝓤 H A mem run) known-refused-by (to-refused-by 𝓤 H A mem run W r₁) (and-then ! (load ! (from ! (stop !)) (look ! 29 refl)) (no-more !)) (λ w₂. use1 W (later (some (λ (r : Planning). given (refused-by-says 𝓤 H A mem run W r₁ r w₂) (‵ (ftrue))))) (gets-refused-by 𝓤 H A mem run W r₁ w₂) $ await ! tt $ pick ! (λ r₂. learn ! (λ is₂. land ! (from ! (stop !)) (init ! 27 refl (typed-as (named-ty (114 ∷ 117 ∷ 108 ∷ 101 ∷ 115 ∷ 58 ∷ 58 ∷ 80 ∷ 108 ∷ 97 ∷ 110 ∷ 110 ∷ 105 ∷ 110 ∷ 103 ∷ [])) w₂ (is₂ .0) (EL.lawful Q.the-type Q′.the-laws 𝓤 H A W tt .typed r₂ _ (is₂ .1 .0) .0))) $ rewrite ! 27 (λ (z : Val). ‵ (fat fullShare (named-ty (114 ∷ 117 ∷ 108 ∷ 101 ∷ 115 ∷ 58 ∷ 58 ∷ 80 ∷ 108 ∷ 97 ∷ 110 ∷ 110 ∷ 105 ∷ 110 ∷ 103 ∷ [])) l₉ 0 z)) (is₂ .0) refl $ use1 W (raw (IsAccepted 𝓤 H A mem run .pre (to-is-accepted 𝓤 H A mem run W r₁))) (goes-is-accepted 𝓤 H A mem run W r₁ (is₁ .1 .0)) $ calls-at ! fm (IsAccepted 𝓤 H A mem run) known-is-accepted (to-is-accepted 𝓤 H A mem run W r₁) (and-then ! (load ! (from ! (stop !)) (look ! 29 refl)) (no-more !)) (λ w₃. use1 W (later (some (λ (r : Bool). given (is-accepted-says 𝓤 H A mem run W r₁ r w₃) (‵ (ftrue))))) (gets-is-accepted 𝓤 H A mem run W r₁ w₃) $ await ! tt $ pick ! (λ r₃. learn ! (λ is₃. land ! (from ! (stop !)) (init ! 19 refl (typed-as (tyBool) w₃ (is₃ .0) (tt, tt))) $ rewrite ! 19 (λ (z : Val). ‵ (fat fullShare (tyBool) l₁₃ 0 z)) (is₃ .0) refl $ first ! $ branches ! (load ! (from ! (stop !)) (look ! 19 refl)) (λ yes. assigns ! (addr ! (from ! (fld ! refl (hop ! (look-in ! 31 (sub ! 0 refl (whole !))) (stop !))))) (from ! (stop !)) (init ! 17 refl (tt, tt)) $ assigns ! (agg ! (and-then ! (load ! (from ! (stop !)) (look ! 17 refl)) (and-then ! (load ! (from ! (fld ! refl (stop !))) (look-in ! 31 (sub ! 1 refl (whole !)))) (no-more !)))) (from ! (stop !)) (init ! 15 refl (tt, (tt, (record { fits = room-work .0 }, tt)))) $ move ! (5 ∷ []) $ use1 W (‵ (ShrSlice (named 1) κ-rows u32 .own t-rows (sliceVal (t-rows .ptr) (length (t-rows .now)) ∷ [])) ⊛ ‵ (ShrSlice (named 1) κ-rows u32 .own t-rows (sliceVal (t-rows .ptr) (length (t-rows .now)) ∷ []))) (shr-slice-copy 𝓤 H A W (named 1) κ-rows u32 .twice t-rows (sliceVal (t-rows .ptr) (length (t-rows .now)) ∷ [])) $ split ! $ move ! (6 ∷ []) $ use1 W (‵ (ShrSlice (named 2) κ-due i64 .own t-due (sliceVal (t-due .ptr) (length (t-due .now)) ∷ [])) ⊛ ‵ (ShrSlice (named 2) κ-due i64 .own t-due (sliceVal (t-due .ptr) (length (t-due .now)) ∷ []))) (shr-slice-copy 𝓤 H A W (named 2) κ-due i64 .twice t-due (sliceVal (t-due .ptr) (length (t-due .now)) ∷ [])) $ split ! $ move ! (8 ∷ []) $ use1 W (‵ (ShrSlice (named 0) κ-types u32 .own t-types (sliceVal (t-types .ptr) (length (t-types .now)) ∷ [])) ⊛ ‵ (ShrSlice (named 0) κ-types u32 .own t-types (sliceVal (t-types .ptr) (length (t-types .now)) ∷ []))) (shr-slice-copy 𝓤 H A W (named 0) κ-types u32 .twice t-types (sliceVal (t-types .ptr) (length (t-types .now)) ∷ [])) $ split ! $ move ! (2 ∷ 0 ∷ []) $ fjoin ! $ move ! (3 ∷ 0 ∷ []) $ fjoin ! $ move ! (7 ∷ 0 ∷ []) $ fjoin ! $ move ! (6 ∷ 0 ∷ []) $ fjoin ! $ move ! (5 ∷ 0 ∷ []) $ fjoin ! $ move ! (7 ∷ 8 ∷ 0 ∷ []) $ calls-out ! fm (fsep (flft κ-rows q-rows) (fsep (flft κ-due q-due) (fsep (flft κ-types q-types) (fsep (ShrSlice (named 1) κ-rows u32 .own t-rows (sliceVal (t-rows .ptr) (length (t-rows .now)) ∷ [])) (fsep (ShrSlice (named 2) κ-due i64 .own t-due (sliceVal (t-due .ptr) (length (t-due .now)) ∷ [])) (ShrSlice (named 0) κ-types u32 .own t-types (sliceVal (t-types .ptr) (length (t-types .now)) ∷ []))))))) (fsep (flft κ-rows q-rows) (fsep (flft κ-due q-due) (flft κ-types q-types))) T.the-row b-work o-work m-work ys-work refl room-work (plan-in-says 𝓤 H A mem run W κ-rows q-rows t-rows κ-due q-due t-due κ-types q-types t-types b-work o-work m-work ys-work tc rc) (λ ν δ. PlanIn 𝓤 H A mem run .pre (to-plan-in 𝓤 H A mem run W κ-rows q-rows t-rows κ-due q-due t-due κ-types q-types t-types b-work o-work m-work ys-work tc rc ν δ)) (plan-in-vals 𝓤 H A mem run W κ-rows q-rows t-rows κ-due q-due t-due κ-types q-types t-types b-work o-work m-work ys-work tc rc) (λ ν δ w. PlanIn 𝓤 H A mem run .post (to-plan-in 𝓤 H A mem run W κ-rows q-rows t-rows κ-due q-due t-due κ-types q-types t-types b-work o-work m-work ys-work tc rc ν δ) w) (goes-plan-in 𝓤 H A mem run W κ-rows q-rows t-rows κ-due q-due t-due κ-types q-types t-types b-work o-work m-work ys-work tc rc (verdict-plans (t-types .now) (t-rows .now) (t-due .now) tc rc ys-placement ys-work r₁ (is₁ .1 .1) (accepted-is r₁ r₃ (is₃ .1 .1) yes)) tc-fits rc-fits) (λ ν δ. known-plan-in (to-plan-in 𝓤 H A mem run W κ-rows q-rows t-rows κ-due q-due t-due κ-types q-types t-types b-work o-work m-work ys-work tc rc ν δ)) (gets-plan-in 𝓤 H A mem run W κ-rows q-rows t-rows κ-due q-due t-due κ-types q-types t-types b-work o-work m-work ys-work tc rc refl) (λ ν δ. and-then ! (load ! (from ! (stop !)) (look ! 12 refl)) (and-then ! (load ! (from ! (stop !)) (look ! 38 refl)) (and-then ! (load ! (from ! (stop !)) (look ! 36 refl)) (and-then ! (load ! (from ! (stop !)) (look ! 40 refl)) (and-then ! (load ! (from ! (stop !)) (look ! 34 refl)) (and-then ! (load ! (from ! (stop !)) (look ! 32 refl)) (no-more !))))))) (λ w₄ r₄ zs₄ len₄ is₄. move ! (2 ∷ []) $ fsplit ! $ move ! (1 ∷ []) $ fsplit ! $ land ! (from ! (stop !)) (init ! 25 refl (typed-as (named-ty (114 ∷ 117 ∷ 110 ∷ 115 ∷ 58 ∷ 58 ∷ 116 ∷ 117 ∷ 114 ∷ 110 ∷ 115 ∷ 58 ∷ 58 ∷ 80 ∷ 97 ∷ 115 ∷ 115 ∷ [])) w₄ (is₄ .0) (LL.lawful P.the-type P′.the-laws 𝓤 H A W .typed r₄ _ (is₄ .1 .0) .0))) $ rewrite ! 25 (λ (z : Val). ‵ (fat fullShare (named-ty (114 ∷ 117 ∷ 110 ∷ 115 ∷ 58 ∷ 58 ∷ 116 ∷ 117 ∷ 114 ∷ 110 ∷ 115 ∷ 58 ∷ 58 ∷ 80 ∷ 97 ∷ 115 ∷ 115 ∷ [])) l₁₀ 0 z)) (is₄ .0) refl $ assigns ! (addr ! (from ! (fld ! refl (hop ! (look-in ! 33 (sub ! 0 refl (whole !))) (stop !))))) (from ! (stop !)) (init ! 13 refl (tt, tt)) $ assigns ! (agg ! (and-then ! (load ! (from ! (stop !)) (look ! 13 refl)) (and-then ! (load ! (from ! (fld ! refl (stop !))) (look-in ! 33 (sub ! 1 refl (whole !)))) (no-more !)))) (from ! (stop !)) (init ! 11 refl (tt, (tt, (record { fits = room-placement .0 }, tt)))) $ move ! (9 ∷ 10 ∷ 8 ∷ []) $ calls-out-last ! fm (ftrue) (ftrue) u64 b-placement o-placement m-placement ys-placement refl room-placement (tell-says 𝓤 H A mem run W b-placement o-placement m-placement ys-placement r₄) (λ ν δ. Tell 𝓤 H A mem run .pre (to-tell 𝓤 H A mem run W b-placement o-placement m-placement ys-placement r₄ ν δ)) (tell-vals 𝓤 H A mem run W b-placement o-placement m-placement ys-placement r₄) (λ ν δ w. Tell 𝓤 H A mem run .post (to-tell 𝓤 H A mem run W b-placement o-placement m-placement ys-placement r₄ ν δ) w) (goes-tell 𝓤 H A mem run W b-placement o-placement m-placement ys-placement r₄ (verdict-four (t-types .now) (t-rows .now) (t-due .now) tc rc ys-placement ys-work r₁ (is₁ .1 .1) (accepted-is r₁ r₃ (is₃ .1 .1) yes)) (is₄ .1 .0)) (λ ν δ. known-tell (to-tell 𝓤 H A mem run W b-placement o-placement m-placement ys-placement r₄ ν δ)) (gets-tell 𝓤 H A mem run W b-placement o-placement m-placement ys-placement r₄ refl) (λ ν δ. and-then ! (load ! (from ! (stop !)) (look ! 10 refl)) (and-then ! (load ! (from ! (stop !)) (look ! 24 refl)) (no-more !))) (λ w₅ r₅ zs₅ len₅ is₅. land-last ! (from ! (stop !)) (store ! 27 refl (typed-as (named-ty (114 ∷ 117 ∷ 108 ∷ 101 ∷ 115 ∷ 58 ∷ 58 ∷ 80 ∷ 108 ∷ 97 ∷ 110 ∷ 110 ∷ 105 ∷ 110 ∷ 103 ∷ [])) w₅ (is₅ .0) (EL.lawful Q.the-type Q′.the-laws 𝓤 H A W tt .typed r₅ _ (is₅ .1 .0) .0))) $ rewrite ! 27 (λ (z : Val). ‵ (fat fullShare (named-ty (114 ∷ 117 ∷ 108 ∷ 101 ∷ 115 ∷ 58 ∷ 58 ∷ 80 ∷ 108 ∷ 97 ∷ 110 ∷ 110 ∷ 105 ∷ 110 ∷ 103 ∷ [])) l₉ 0 z)) (is₅ .0) refl $ exec ! C Λ (E l₀ l₁ l₂ l₃ l₄ l₅ l₆ l₇ l₈ l₉ l₁₀ l₁₁ l₁₂ l₁₃ l₁₄ l₁₅ l₁₆ l₁₇) M′.t-7 (atRet (E l₀ l₁ l₂ l₃ l₄ l₅ l₆ l₇ l₈ l₉ l₁₀ l₁₁ l₁₂ l₁₃ l₁₄ l₁₅ l₁₆ l₁₇) Post) $ assigns ! (of-opd ! (load ! (from ! (stop !)) (look ! 27 refl))) (from ! (stop !)) (init ! 45 refl (EL.lawful Q.the-type Q′.the-laws 𝓤 H A W tt .typed r₅ _ (is₅ .1 .0) .0)) $ returns ! (look ! 45 refl) $ forget ! 11 refl $ forget ! 13 refl $ forget ! 15 refl $ forget ! 17 refl $ forget ! 19 refl $ forget ! 21 refl $ forget ! 23 refl $ forget ! 25 refl $ forget ! 27 refl $ forget ! 29 refl $ forget ! 31 refl $ forget ! 33 refl $ forget ! 35 refl $ forget ! 37 refl $ forget ! 39 refl $ forget ! 41 refl $ forget ! 43 refl $ forget ! 45 refl $ move ! (45 ∷ 46 ∷ []) $ free1 ! $ move ! (43 ∷ 44 ∷ []) $ free1 ! $ move ! (41 ∷ 42 ∷ []) $ free1 ! $ move ! (39 ∷ 40 ∷ []) $ free1 ! $ move ! (37 ∷ 38 ∷ []) $ free1 ! $ move ! (35 ∷ 36 ∷ []) $ free1 ! $ move ! (33 ∷ 34 ∷ []) $ free1 ! $ move ! (31 ∷ 32 ∷ []) $ free1 ! $ move ! (29 ∷ 30 ∷ []) $ free1 ! $ move ! (27 ∷ 28 ∷ []) $ free1 ! $ move ! (25 ∷ 26 ∷ []) $ free1 ! $ move ! (23 ∷ 24 ∷ []) $ free1 ! $ move ! (21 ∷ 22 ∷ []) $ free1 ! $ move ! (19 ∷ 20 ∷ []) $ free1 ! $ move ! (17 ∷ 18 ∷ []) $ free1 ! $ move ! (15 ∷ 16 ∷ []) $ free1 ! $ move ! (13 ∷ 14 ∷ []) $ free1 ! $ move ! (11 ∷ 12 ∷ []) $ free1 ! $ free0 ! $ keep ! (0 ∷ 1 ∷ 6 ∷ 7 ∷ 4 ∷ 8 ∷ 5 ∷ 10 ∷ 3 ∷ 9 ∷ []) $ by ! (exits r₅ zs₅ zs₄ (is₅ .1 .0) len₅ len₄ (plan-done (t-types .now) (t-rows .now) (t-due .now) tc rc ys-placement ys-work r₁ (is₁ .1 .1) (accepted-is r₁ r₃ (is₃ .1 .1) yes) zs₄ r₄ (is₄ .1 .1) zs₅ r₅ (is₅ .1 .1)))))) (λ no. skips ! $ exec ! C Λ (E l₀ l₁ l₂ l₃ l₄ l₅ l₆ l₇ l₈ l₉ l₁₀ l₁₁ l₁₂ l₁₃ l₁₄ l₁₅ l₁₆ l₁₇) M′.t-7 (atRet (E l₀ l₁ l₂ l₃ l₄ l₅ l₆ l₇ l₈ l₉ l₁₀ l₁₁ l₁₂ l₁₃ l₁₄ l₁₅ l₁₆ l₁₇) Post) $ assigns ! (of-opd ! (load ! (from ! (stop !)) (look ! 27 refl))) (from ! (stop !)) (init ! 45 refl (EL.lawful Q.the-type Q′.the-laws 𝓤 H A W tt .typed r₂ _ (is₂ .1 .0) .0)) $ returns ! (look ! 45 refl) $ forget ! 19 refl $ forget ! 21 refl $ forget ! 23 refl $ forget ! 27 refl $ forget ! 29 refl $ forget ! 31 refl $ forget ! 33 refl $ forget ! 35 refl $ forget ! 37 refl $ forget ! 39 refl $ forget ! 41 refl $ forget ! 43 refl $ forget ! 45 refl $ move ! (45 ∷ 46 ∷ []) $ free1 ! $ move ! (43 ∷ 44 ∷ []) $ free1 ! $ move ! (41 ∷ 42 ∷ []) $ free1 ! $ move ! (39 ∷ 40 ∷ []) $ free1 ! $ move ! (37 ∷ 38 ∷ []) $ free1 ! $ move ! (35 ∷ 36 ∷ []) $ free1 ! $ move ! (33 ∷ 34 ∷ []) $ free1 ! $ move ! (31 ∷ 32 ∷ []) $ free1 ! $ move ! (29 ∷ 30 ∷ []) $ free1 ! $ move ! (27 ∷ 28 ∷ []) $ free1 ! $ move ! (25 ∷ 26 ∷ []) $ free1 ! $ move ! (23 ∷ 24 ∷ []) $ free1 ! $ move ! (21 ∷ 22 ∷ []) $ free1 ! $ move ! (19 ∷ 20 ∷ []) $ free1 ! $ move ! (17 ∷ 18 ∷ []) $ free1 ! $ move ! (15 ∷ 16 ∷ []) $ free1 ! $ move ! (13 ∷ 14 ∷ []) $ free1 ! $ move ! (11 ∷ 12 ∷ []) $ free1 ! $ free0 ! $ keep ! (7 ∷ 8 ∷ 9 ∷ 10 ∷ 3 ∷ 6 ∷ 1 ∷ 5 ∷ 2 ∷ 4 ∷ []) $ by ! (exits r₂ ys-placement ys-work (is₂ .1 .0) refl refl (plan-refused (t-types .now) (t-rows .now) (t-due .now) tc rc ys-placement ys-work r₁ (is₁ .1 .1) (refused-is r₁ r₃ (is₃ .1 .1) no) r₂ (is₂ .1 .1)))))))))))))))))))))))))))))))
+        alloc1 ! (λ l₀. alloc1 ! (λ l₁. alloc1 ! (λ l₂. alloc1 ! (λ l₃. alloc1 ! (λ l₄. alloc1 ! (λ l₅. alloc1 ! (λ l₆. alloc1 ! (λ l₇. alloc1 ! (λ l₈. alloc1 ! (λ l₉. alloc1 ! (λ l₁₀. alloc1 ! (λ l₁₁. alloc1 ! (λ l₁₂. alloc1 ! (λ l₁₃. alloc1 ! (λ l₁₄. alloc1 ! (λ l₁₅. alloc0 ! $ params1 ! $ pass1 ! (init ! 28 refl (tt, (tt, (record { fits = room-types .0 }, tt)))) $ pass1 ! (init ! 26 refl (tt, (tt, (record { fits = room-rows .0 }, tt)))) $ pass1 ! (init ! 24 refl (tt, (tt, (record { fits = room-due .0 }, tt)))) $ pass1 ! (init ! 22 refl (tt, record { fits = tc-fits })) $ pass1 ! (init ! 20 refl (tt, record { fits = rc-fits })) $ pass1 ! (init ! 18 refl (tt, (tt, (record { fits = room-placement .0 }, tt)))) $ pass1 ! (init ! 16 refl (tt, (tt, (record { fits = room-work .0 }, tt)))) $ pass0 ! $ move ! (32 ∷ []) $ split ! $ move ! (1 ∷ []) $ split ! $ move ! (1 ∷ []) $ split ! $ move ! (1 ∷ []) $ split ! $ move ! (1 ∷ []) $ split ! $ move ! (38 ∷ []) $ fsplit ! $ move ! (1 ∷ []) $ fsplit ! $ move ! (1 ∷ []) $ fsplit ! $ move ! (1 ∷ []) $ fsplit ! $ drop ! $ fsplit ! $ drop ! $ fsplit ! $ move ! (1 ∷ []) $ fsplit ! $ move ! (1 ∷ []) $ drop ! $ move ! (1 ∷ 7 ∷ 0 ∷ 5 ∷ 6 ∷ 10 ∷ 4 ∷ 9 ∷ 3 ∷ 8 ∷ 2 ∷ []) $ assigns ! (of-opd ! (load ! (from ! (fld ! refl (stop !))) (look-in ! 29 (sub ! 1 refl (whole !))))) (from ! (stop !)) (init ! 21 refl (tt, record { fits = room-placement .0 })) $ assigns ! (of-opd ! (load ! (from ! (fld ! refl (stop !))) (look-in ! 27 (sub ! 1 refl (whole !))))) (from ! (stop !)) (init ! 19 refl (tt, record { fits = room-work .0 })) $ move ! (6 ∷ []) $ use1 W (‵ (ShrSlice (named 0) κ-types u32 .own t-types (sliceVal (t-types .ptr) (length (t-types .now)) ∷ [])) ⊛ ‵ (ShrSlice (named 0) κ-types u32 .own t-types (sliceVal (t-types .ptr) (length (t-types .now)) ∷ []))) (shr-slice-copy 𝓤 H A W (named 0) κ-types u32 .twice t-types (sliceVal (t-types .ptr) (length (t-types .now)) ∷ [])) $ split ! $ move ! (9 ∷ []) $ use1 W (‵ (ShrSlice (named 1) κ-rows u32 .own t-rows (sliceVal (t-rows .ptr) (length (t-rows .now)) ∷ [])) ⊛ ‵ (ShrSlice (named 1) κ-rows u32 .own t-rows (sliceVal (t-rows .ptr) (length (t-rows .now)) ∷ []))) (shr-slice-copy 𝓤 H A W (named 1) κ-rows u32 .twice t-rows (sliceVal (t-rows .ptr) (length (t-rows .now)) ∷ [])) $ split ! $ move ! (12 ∷ []) $ use1 W (‵ (ShrSlice (named 2) κ-due i64 .own t-due (sliceVal (t-due .ptr) (length (t-due .now)) ∷ [])) ⊛ ‵ (ShrSlice (named 2) κ-due i64 .own t-due (sliceVal (t-due .ptr) (length (t-due .now)) ∷ []))) (shr-slice-copy 𝓤 H A W (named 2) κ-due i64 .twice t-due (sliceVal (t-due .ptr) (length (t-due .now)) ∷ [])) $ split ! $ move ! (2 ∷ 0 ∷ []) $ fjoin ! $ move ! (3 ∷ 0 ∷ []) $ fjoin ! $ move ! (11 ∷ 0 ∷ []) $ fjoin ! $ move ! (10 ∷ 0 ∷ []) $ fjoin ! $ move ! (9 ∷ 0 ∷ []) $ fjoin ! $ use1 W (raw (Judge 𝓤 H A mem run .pre (to-judge 𝓤 H A mem run W κ-types q-types t-types κ-rows q-rows t-rows κ-due q-due t-due tc rc m-placement m-work))) (goes-judge 𝓤 H A mem run W κ-types q-types t-types κ-rows q-rows t-rows κ-due q-due t-due tc rc m-placement m-work tc-fits rc-fits (room-placement .0) (room-work .0)) $ calls-at ! fm (Judge 𝓤 H A mem run) known-judge (to-judge 𝓤 H A mem run W κ-types q-types t-types κ-rows q-rows t-rows κ-due q-due t-due tc rc m-placement m-work) (and-then ! (load ! (from ! (stop !)) (look ! 37 refl)) (and-then ! (load ! (from ! (stop !)) (look ! 35 refl)) (and-then ! (load ! (from ! (stop !)) (look ! 33 refl)) (and-then ! (load ! (from ! (stop !)) (look ! 31 refl)) (and-then ! (load ! (from ! (stop !)) (look ! 29 refl)) (and-then ! (load ! (from ! (stop !)) (look ! 19 refl)) (and-then ! (load ! (from ! (stop !)) (look ! 17 refl)) (no-more !)))))))) (λ w₁. use1 W (later (some (λ (r : Checking). given (judge-says 𝓤 H A mem run W κ-types q-types t-types κ-rows q-rows t-rows κ-due q-due t-due tc rc m-placement m-work r w₁) (‵ (fsep (flft κ-types q-types) (fsep (flft κ-rows q-rows) (flft κ-due q-due))))))) (gets-judge 𝓤 H A mem run W κ-types q-types t-types κ-rows q-rows t-rows κ-due q-due t-due tc rc m-placement m-work w₁) $ await ! tt $ pick ! (λ r₁. learn ! (λ is₁. fsplit ! $ move ! (1 ∷ []) $ fsplit ! $ land ! (from ! (stop !)) (init ! 25 refl (typed-as (named-ty (114 ∷ 117 ∷ 108 ∷ 101 ∷ 115 ∷ 58 ∷ 58 ∷ 67 ∷ 104 ∷ 101 ∷ 99 ∷ 107 ∷ 105 ∷ 110 ∷ 103 ∷ [])) w₁ (is₁ .0) (EL.lawful Y.the-type Y′.the-laws 𝓤 H A W tt .typed r₁ _ (is₁ .1 .0) .0))) $ rewrite ! 25 (λ (z : Val). ‵ (fat fullShare (named-ty (114 ∷ 117 ∷ 108 ∷ 101 ∷ 115 ∷ 58 ∷ 58 ∷ 67 ∷ 104 ∷ 101 ∷ 99 ∷ 107 ∷ 105 ∷ 110 ∷ 103 ∷ [])) l₈ 0 z)) (is₁ .0) refl $ assigns ! (addr ! (from ! (fld ! refl (hop ! (look-in ! 27 (sub ! 0 refl (whole !))) (stop !))))) (from ! (stop !)) (init ! 17 refl (tt, tt)) $ assigns ! (agg ! (and-then ! (load ! (from ! (stop !)) (look ! 17 refl)) (and-then ! (load ! (from ! (fld ! refl (stop !))) (look-in ! 27 (sub ! 1 refl (whole !)))) (no-more !)))) (from ! (stop !)) (init ! 15 refl (tt, (tt, (record { fits = room-work .0 }, tt)))) $ move ! (4 ∷ []) $ use1 W (‵ (ShrSlice (named 1) κ-rows u32 .own t-rows (sliceVal (t-rows .ptr) (length (t-rows .now)) ∷ [])) ⊛ ‵ (ShrSlice (named 1) κ-rows u32 .own t-rows (sliceVal (t-rows .ptr) (length (t-rows .now)) ∷ []))) (shr-slice-copy 𝓤 H A W (named 1) κ-rows u32 .twice t-rows (sliceVal (t-rows .ptr) (length (t-rows .now)) ∷ [])) $ split ! $ move ! (5 ∷ []) $ use1 W (‵ (ShrSlice (named 2) κ-due i64 .own t-due (sliceVal (t-due .ptr) (length (t-due .now)) ∷ [])) ⊛ ‵ (ShrSlice (named 2) κ-due i64 .own t-due (sliceVal (t-due .ptr) (length (t-due .now)) ∷ []))) (shr-slice-copy 𝓤 H A W (named 2) κ-due i64 .twice t-due (sliceVal (t-due .ptr) (length (t-due .now)) ∷ [])) $ split ! $ move ! (7 ∷ []) $ use1 W (‵ (ShrSlice (named 0) κ-types u32 .own t-types (sliceVal (t-types .ptr) (length (t-types .now)) ∷ [])) ⊛ ‵ (ShrSlice (named 0) κ-types u32 .own t-types (sliceVal (t-types .ptr) (length (t-types .now)) ∷ []))) (shr-slice-copy 𝓤 H A W (named 0) κ-types u32 .twice t-types (sliceVal (t-types .ptr) (length (t-types .now)) ∷ [])) $ split ! $ move ! (2 ∷ 0 ∷ []) $ fjoin ! $ move ! (3 ∷ 0 ∷ []) $ fjoin ! $ move ! (6 ∷ 0 ∷ []) $ fjoin ! $ move ! (5 ∷ 0 ∷ []) $ fjoin ! $ move ! (4 ∷ 0 ∷ []) $ fjoin ! $ move ! (6 ∷ 7 ∷ 0 ∷ []) $ calls-out ! fm (fsep (flft κ-rows q-rows) (fsep (flft κ-due q-due) (fsep (flft κ-types q-types) (fsep (ShrSlice (named 1) κ-rows u32 .own t-rows (sliceVal (t-rows .ptr) (length (t-rows .now)) ∷ [])) (fsep (ShrSlice (named 2) κ-due i64 .own t-due (sliceVal (t-due .ptr) (length (t-due .now)) ∷ [])) (ShrSlice (named 0) κ-types u32 .own t-types (sliceVal (t-types .ptr) (length (t-types .now)) ∷ []))))))) (fsep (flft κ-rows q-rows) (fsep (flft κ-due q-due) (flft κ-types q-types))) T.the-row b-work o-work m-work ys-work refl room-work (plan-if-says 𝓤 H A mem run W κ-rows q-rows t-rows κ-due q-due t-due κ-types q-types t-types b-work o-work m-work ys-work tc rc r₁) (λ ν δ. PlanIf 𝓤 H A mem run .pre (to-plan-if 𝓤 H A mem run W κ-rows q-rows t-rows κ-due q-due t-due κ-types q-types t-types b-work o-work m-work ys-work tc rc r₁ ν δ)) (plan-if-vals 𝓤 H A mem run W κ-rows q-rows t-rows κ-due q-due t-due κ-types q-types t-types b-work o-work m-work ys-work tc rc r₁) (λ ν δ w. PlanIf 𝓤 H A mem run .post (to-plan-if 𝓤 H A mem run W κ-rows q-rows t-rows κ-due q-due t-due κ-types q-types t-types b-work o-work m-work ys-work tc rc r₁ ν δ) w) (goes-plan-if 𝓤 H A mem run W κ-rows q-rows t-rows κ-due q-due t-due κ-types q-types t-types b-work o-work m-work ys-work tc rc r₁ (verdict-plans (t-types .now) (t-rows .now) (t-due .now) tc rc ys-placement ys-work r₁ (is₁ .1 .1)) tc-fits rc-fits (is₁ .1 .0)) (λ ν δ. known-plan-if (to-plan-if 𝓤 H A mem run W κ-rows q-rows t-rows κ-due q-due t-due κ-types q-types t-types b-work o-work m-work ys-work tc rc r₁ ν δ)) (gets-plan-if 𝓤 H A mem run W κ-rows q-rows t-rows κ-due q-due t-due κ-types q-types t-types b-work o-work m-work ys-work tc rc r₁ refl) (λ ν δ. and-then ! (load ! (from ! (stop !)) (look ! 12 refl)) (and-then ! (load ! (from ! (stop !)) (look ! 34 refl)) (and-then ! (load ! (from ! (stop !)) (look ! 32 refl)) (and-then ! (load ! (from ! (stop !)) (look ! 36 refl)) (and-then ! (load ! (from ! (stop !)) (look ! 30 refl)) (and-then ! (load ! (from ! (stop !)) (look ! 28 refl)) (and-then ! (load ! (from ! (stop !)) (look ! 22 refl)) (no-more !)))))))) (λ w₂ r₂ zs₂ len₂ is₂. move ! (2 ∷ []) $ fsplit ! $ move ! (1 ∷ []) $ fsplit ! $ land ! (from ! (stop !)) (init ! 23 refl (typed-as (named-ty (116 ∷ 117 ∷ 114 ∷ 110 ∷ 115 ∷ 58 ∷ 58 ∷ 80 ∷ 97 ∷ 115 ∷ 115 ∷ [])) w₂ (is₂ .0) (LL.lawful P.the-type P′.the-laws 𝓤 H A W .typed r₂ _ (is₂ .1 .0) .0))) $ rewrite ! 23 (λ (z : Val). ‵ (fat fullShare (named-ty (116 ∷ 117 ∷ 114 ∷ 110 ∷ 115 ∷ 58 ∷ 58 ∷ 80 ∷ 97 ∷ 115 ∷ 115 ∷ [])) l₉ 0 z)) (is₂ .0) refl $ assigns ! (addr ! (from ! (fld ! refl (hop ! (look-in ! 29 (sub ! 0 refl (whole !))) (stop !))))) (from ! (stop !)) (init ! 13 refl (tt, tt)) $ assigns ! (agg ! (and-then ! (load ! (from ! (stop !)) (look ! 13 refl)) (and-then ! (load ! (from ! (fld ! refl (stop !))) (look-in ! 29 (sub ! 1 refl (whole !)))) (no-more !)))) (from ! (stop !)) (init ! 11 refl (tt, (tt, (record { fits = room-placement .0 }, tt)))) $ move ! (8 ∷ 9 ∷ 10 ∷ []) $ calls-out ! fm (ftrue) (ftrue) u64 b-placement o-placement m-placement ys-placement refl room-placement (tell-if-says 𝓤 H A mem run W b-placement o-placement m-placement ys-placement r₁ r₂) (λ ν δ. TellIf 𝓤 H A mem run .pre (to-tell-if 𝓤 H A mem run W b-placement o-placement m-placement ys-placement r₁ r₂ ν δ)) (tell-if-vals 𝓤 H A mem run W b-placement o-placement m-placement ys-placement r₁ r₂) (λ ν δ w. TellIf 𝓤 H A mem run .post (to-tell-if 𝓤 H A mem run W b-placement o-placement m-placement ys-placement r₁ r₂ ν δ) w) (goes-tell-if 𝓤 H A mem run W b-placement o-placement m-placement ys-placement r₁ r₂ (verdict-four (t-types .now) (t-rows .now) (t-due .now) tc rc ys-placement ys-work r₁ (is₁ .1 .1)) (is₁ .1 .0) (is₂ .1 .0)) (λ ν δ. known-tell-if (to-tell-if 𝓤 H A mem run W b-placement o-placement m-placement ys-placement r₁ r₂ ν δ)) (gets-tell-if 𝓤 H A mem run W b-placement o-placement m-placement ys-placement r₁ r₂ refl) (λ ν δ. and-then ! (load ! (from ! (stop !)) (look ! 10 refl)) (and-then ! (load ! (from ! (stop !)) (look ! 24 refl)) (and-then ! (load ! (from ! (stop !)) (look ! 22 refl)) (no-more !)))) (λ w₃ r₃ zs₃ len₃ is₃. land ! (from ! (stop !)) (init ! 41 refl (typed-as (named-ty (114 ∷ 117 ∷ 108 ∷ 101 ∷ 115 ∷ 58 ∷ 58 ∷ 80 ∷ 108 ∷ 97 ∷ 110 ∷ 110 ∷ 105 ∷ 110 ∷ 103 ∷ [])) w₃ (is₃ .0) (EL.lawful Q.the-type Q′.the-laws 𝓤 H A W tt .typed r₃ _ (is₃ .1 .0) .0))) $ rewrite ! 41 (λ (z : Val). ‵ (fat fullShare (named-ty (114 ∷ 117 ∷ 108 ∷ 101 ∷ 115 ∷ 58 ∷ 58 ∷ 80 ∷ 108 ∷ 97 ∷ 110 ∷ 110 ∷ 105 ∷ 110 ∷ 103 ∷ [])) l₀ 0 z)) (is₃ .0) refl $ returns ! (look ! 41 refl) $ forget ! 11 refl $ forget ! 13 refl $ forget ! 15 refl $ forget ! 17 refl $ forget ! 19 refl $ forget ! 21 refl $ forget ! 23 refl $ forget ! 25 refl $ forget ! 27 refl $ forget ! 29 refl $ forget ! 31 refl $ forget ! 33 refl $ forget ! 35 refl $ forget ! 37 refl $ forget ! 39 refl $ forget ! 41 refl $ move ! (41 ∷ 42 ∷ []) $ free1 ! $ move ! (39 ∷ 40 ∷ []) $ free1 ! $ move ! (37 ∷ 38 ∷ []) $ free1 ! $ move ! (35 ∷ 36 ∷ []) $ free1 ! $ move ! (33 ∷ 34 ∷ []) $ free1 ! $ move ! (31 ∷ 32 ∷ []) $ free1 ! $ move ! (29 ∷ 30 ∷ []) $ free1 ! $ move ! (27 ∷ 28 ∷ []) $ free1 ! $ move ! (25 ∷ 26 ∷ []) $ free1 ! $ move ! (23 ∷ 24 ∷ []) $ free1 ! $ move ! (21 ∷ 22 ∷ []) $ free1 ! $ move ! (19 ∷ 20 ∷ []) $ free1 ! $ move ! (17 ∷ 18 ∷ []) $ free1 ! $ move ! (15 ∷ 16 ∷ []) $ free1 ! $ move ! (13 ∷ 14 ∷ []) $ free1 ! $ move ! (11 ∷ 12 ∷ []) $ free1 ! $ free0 ! $ keep ! (0 ∷ 1 ∷ 6 ∷ 7 ∷ 4 ∷ 8 ∷ 5 ∷ 10 ∷ 3 ∷ 9 ∷ []) $ by ! (exits r₃ zs₃ zs₂ (is₃ .1 .0) len₃ len₂ (plan-told (t-types .now) (t-rows .now) (t-due .now) tc rc ys-placement ys-work r₁ (is₁ .1 .1) zs₂ r₂ (is₂ .1 .1) zs₃ r₃ (is₃ .1 .1))))))))))))))))))))))))
 
-module _ {M : Type 1} (𝓤 : URA M) (H : Heap 𝓤) (A : Atoms 𝓤) (W : Given 𝓤 H A) (mem : Memory → SProp 𝓤) (run : Routine → Fun 𝓤) (𝓣 : Tables 𝓤 H) (known-judge : Triple 𝓤 (𝓣 .C #judge) (Judge 𝓤 H A mem run)) (known-refused-by : Triple 𝓤 (𝓣 .C #refused-by) (RefusedBy 𝓤 H A mem run)) (known-is-accepted : Triple 𝓤 (𝓣 .C #is-accepted) (IsAccepted 𝓤 H A mem run)) (known-plan-in : Triple 𝓤 (𝓣 .C #plan-in) (PlanIn 𝓤 H A mem run)) (known-tell : Triple 𝓤 (𝓣 .C #tell) (Tell 𝓤 H A mem run)) where
+module _ {M : Type 1} (𝓤 : URA M) (H : Heap 𝓤) (A : Atoms 𝓤) (W : Given 𝓤 H A) (mem : Memory → SProp 𝓤) (run : Routine → Fun 𝓤) (𝓣 : Tables 𝓤 H) (known-judge : Triple 𝓤 (𝓣 .C #judge) (Judge 𝓤 H A mem run)) (known-plan-if : Triple 𝓤 (𝓣 .C #plan-if) (PlanIf 𝓤 H A mem run)) (known-tell-if : Triple 𝓤 (𝓣 .C #tell-if) (TellIf 𝓤 H A mem run)) where
   plan-records-walks : Walks 𝓤 H A f.ended stayed (WpFn 𝓤 H (𝓣 .C) (𝓣 .Λ) code.function) (f.clauses 𝓤 H A mem run)
   plan-records-walks = walked 𝓤 H A f.ended stayed (f.clauses 𝓤 H A mem run) (WpFn 𝓤 H (𝓣 .C) (𝓣 .Λ) code.function) (λ κs. (slice-vals, (slice-vals, (slice-vals, (uint-vals w64, (uint-vals w64, (slice-vals, (slice-vals, tt)))))))) (λ κs. (shr-slice-tells (named 0) (κs .0) u32, (shr-slice-tells (named 1) (κs .1 .0) u32, (shr-slice-tells (named 2) (κs .1 .1 .0) i64, (uint-tells w64, (uint-tells w64, (mut-slice-tells (named 3) (κs .1 .1 .1 .0) u64, (mut-slice-tells (named 4) (κs .1 .1 .1 .1 .0) T.the-row, tt))))))))
-      (λ κs qs bounds a g are. via 𝓤 _ (fst∗ 𝓤 _ (f.clauses 𝓤 H A mem run κs a .requires g)) (walk 𝓤 H A W mem run (κs .0) (qs .0) (a .0) (κs .1 .0) (qs .1 .0) (a .1 .0) (κs .1 .1 .0) (qs .1 .1 .0) (a .1 .1 .0) (κs .1 .1 .1 .0) (qs .1 .1 .1 .0) (a .1 .1 .1 .1 .1 .0 .ptr .0) (a .1 .1 .1 .1 .1 .0 .ptr .1) (a .1 .1 .1 .1 .1 .0 .name) (a .1 .1 .1 .1 .1 .0 .now) (κs .1 .1 .1 .1 .0) (qs .1 .1 .1 .1 .0) (a .1 .1 .1 .1 .1 .1 .0 .ptr .0) (a .1 .1 .1 .1 .1 .1 .0 .ptr .1) (a .1 .1 .1 .1 .1 .1 .0 .name) (a .1 .1 .1 .1 .1 .1 .0 .now) (a .1 .1 .1 .0) (a .1 .1 .1 .1 .0) (are .1 .1 .1 .0 .1) (are .1 .1 .1 .1 .0 .1) 𝓣 known-judge known-refused-by known-is-accepted known-plan-in known-tell (are .0 .0 .1) (are .1 .0 .0 .1) (are .1 .1 .0 .0 .1) (are .1 .1 .1 .1 .1 .0 .0 .1) (are .1 .1 .1 .1 .1 .1 .0 .0 .1)))
+      (λ κs qs bounds a g are. via 𝓤 _ (fst∗ 𝓤 _ (f.clauses 𝓤 H A mem run κs a .requires g)) (walk 𝓤 H A W mem run (κs .0) (qs .0) (a .0) (κs .1 .0) (qs .1 .0) (a .1 .0) (κs .1 .1 .0) (qs .1 .1 .0) (a .1 .1 .0) (κs .1 .1 .1 .0) (qs .1 .1 .1 .0) (a .1 .1 .1 .1 .1 .0 .ptr .0) (a .1 .1 .1 .1 .1 .0 .ptr .1) (a .1 .1 .1 .1 .1 .0 .name) (a .1 .1 .1 .1 .1 .0 .now) (κs .1 .1 .1 .1 .0) (qs .1 .1 .1 .1 .0) (a .1 .1 .1 .1 .1 .1 .0 .ptr .0) (a .1 .1 .1 .1 .1 .1 .0 .ptr .1) (a .1 .1 .1 .1 .1 .1 .0 .name) (a .1 .1 .1 .1 .1 .1 .0 .now) (a .1 .1 .1 .0) (a .1 .1 .1 .1 .0) (are .1 .1 .1 .0 .1) (are .1 .1 .1 .1 .0 .1) 𝓣 known-judge known-plan-if known-tell-if (are .0 .0 .1) (are .1 .0 .0 .1) (are .1 .1 .0 .0 .1) (are .1 .1 .1 .1 .1 .0 .0 .1) (are .1 .1 .1 .1 .1 .1 .0 .0 .1)))
 
   plan-records-meets : Meets 𝓤 H A f.signature (WpFn 𝓤 H (𝓣 .C) (𝓣 .Λ) code.function) (f.spec 𝓤 H A mem run)
   plan-records-meets =
@@ -168,7 +154,5 @@ plan-records-spec 𝓤 H 𝓜 𝓖 𝓡 =
     (tables 𝓤 H 𝓜 𝓡 code.env .C) (tables 𝓤 H 𝓜 𝓡 code.env .Λ) #plan-records code.function (code.unfolded 𝓤 H 𝓜 𝓡)
     (plan-records-meets 𝓤 H (𝓖 .A) (givenOf 𝓤 H 𝓜 𝓖) (𝓜 .mem) (𝓡 .run) (tablesOf 𝓤 H 𝓜 (tables 𝓤 H 𝓜 𝓡 code.env))
     (cited 𝓤 H (Judge 𝓤 H (𝓖 .A) (𝓜 .mem) (𝓡 .run)) 𝓜 𝓡 code.env #judge judge-def.routine code.calls-records·judge (judge-thm.met 𝓤 H 𝓜 𝓖 𝓡))
-    (cited 𝓤 H (RefusedBy 𝓤 H (𝓖 .A) (𝓜 .mem) (𝓡 .run)) 𝓜 𝓡 code.env #refused-by refused-by-def.routine code.calls-records·refused-by (refused-by-thm.met 𝓤 H 𝓜 𝓖 𝓡))
-    (cited 𝓤 H (IsAccepted 𝓤 H (𝓖 .A) (𝓜 .mem) (𝓡 .run)) 𝓜 𝓡 code.env #is-accepted is-accepted-def.routine code.calls-records·is-accepted (is-accepted-thm.met 𝓤 H 𝓜 𝓖 𝓡))
-    (cited 𝓤 H (PlanIn 𝓤 H (𝓖 .A) (𝓜 .mem) (𝓡 .run)) 𝓜 𝓡 code.env #plan-in plan-in-def.routine code.calls-records·plan-in (plan-in-thm.met 𝓤 H 𝓜 𝓖 𝓡))
-    (cited 𝓤 H (Tell 𝓤 H (𝓖 .A) (𝓜 .mem) (𝓡 .run)) 𝓜 𝓡 code.env #tell tell-def.routine code.calls-records·tell (tell-thm.met 𝓤 H 𝓜 𝓖 𝓡)))
+    (cited 𝓤 H (PlanIf 𝓤 H (𝓖 .A) (𝓜 .mem) (𝓡 .run)) 𝓜 𝓡 code.env #plan-if plan-if-def.routine code.calls-records·plan-if (plan-if-thm.met 𝓤 H 𝓜 𝓖 𝓡))
+    (cited 𝓤 H (TellIf 𝓤 H (𝓖 .A) (𝓜 .mem) (𝓡 .run)) 𝓜 𝓡 code.env #tell-if tell-if-def.routine code.calls-records·tell-if (tell-if-thm.met 𝓤 H 𝓜 𝓖 𝓡)))

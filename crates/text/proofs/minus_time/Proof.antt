@@ -1,4 +1,5 @@
 -- `text::minus_time` meets its contract: a number of at most the cap, and not 0, gets its minus. Assumes nothing.
+use mathlib.Core.Path.{_≡_}
 use native.Mathlib.Omega.{arith}
 use borrow.Author.Needs.{needs}
 use Rattle.text.specs.Numbers.{small-is, minus-fits, negated-is}
@@ -9,7 +10,9 @@ enum-known-f : tie.Need-enum-known-f
 enum-known-f c = search needs
 
 returns : tie.Need-returns
-returns c = search needs
+returns c =
+    let none : c .before .before .f .given .0 .0 ≡ 0 = c .if1 .taken in
+    search needs
 
 cast-t6 : tie.Need-cast-t6
 cast-t6 c = record { sfits = omega (arith, small-is (c .before .before .before .before .args .f) (c .before .before .f .given .0 .0) (c .before .before .f .given .0 .1 .0) (c .before .before .f .given .1) (c .before .before .before .before .pre)) }

@@ -1,13 +1,18 @@
 -- `zombrict::zombrict_plan` meets its contract: 7 for the answer, else the promise of the entry and the answer as it crosses. Assumes nothing.
 use mathlib.Core.Path.{refl}
 use borrow.Author.Needs.{needs}
-use borrow.Author.Tests.{lt-ltb, le-ltb}
-use Rattle.zombrict.specs.Crossing.{called-short, called}
+use Rattle.answers.specs.Crossing.{area-short, area-long, called-short, called}
 use Rattle.zombrict.proofs.zombrict_plan.Statement.{statement}
 use Rattle.zombrict.proofs.zombrict_plan.Tie as tie
 
+room-requires : tie.Need-room-requires
+room-requires c κs = search needs
+
+short-requires : tie.Need-short-requires
+short-requires c κs = search needs
+
 returns : tie.Need-returns
-returns c = called-short (lt-ltb _ _ (c .if1 .taken)) ((refl, refl), refl, refl)
+returns c = called-short (area-short (c .before .before .room .ensures) (c .before .if1 .taken)) ((c .short .ensures, refl), refl, refl)
 
 plan-net-requires : tie.Need-plan-net-requires
 plan-net-requires c κs = search needs
@@ -31,12 +36,14 @@ same-length-5 : tie.Need-same-length-5
 same-length-5 c = search needs
 
 returns-2 : tie.Need-returns-2
-returns-2 c = called (le-ltb _ _ (c .before .before .before .before .before .before .before .before .before .before .before .before .before .before .before .if1 .left)) (c .before .before .before .before .before .before .before .before .before .before .plan-net .result, c .before .before .before .before .before .before .before .before .before .before .plan-net .ensures, c .before .tell-planning .ensures)
+returns-2 c = called (area-long (c .before .before .before .before .before .before .before .before .before .before .before .before .before .before .before .before .room .ensures) (c .before .before .before .before .before .before .before .before .before .before .before .before .before .before .before .if1 .left)) (c .before .before .before .before .before .before .before .before .before .before .plan-net .result, c .before .before .before .before .before .before .before .before .before .before .plan-net .ensures, c .before .tell-planning .ensures)
 
 pub zombrict-plan-spec : {M : Type 1} → statement M
 zombrict-plan-spec =
     tie.close
     (tie.spec
+    room-requires
+    short-requires
     returns
     plan-net-requires
     tell-planning-requires

@@ -1,13 +1,18 @@
 -- `zombrict::zombrict_read` meets its contract: 7 for the answer, else the promise of the entry and the answer as it crosses. Assumes nothing.
 use mathlib.Core.Path.{refl}
 use borrow.Author.Needs.{needs}
-use borrow.Author.Tests.{lt-ltb, le-ltb}
-use Rattle.zombrict.specs.Crossing.{called-short, called}
+use Rattle.answers.specs.Crossing.{area-short, area-long, called-short, called}
 use Rattle.zombrict.proofs.zombrict_read.Statement.{statement}
 use Rattle.zombrict.proofs.zombrict_read.Tie as tie
 
+room-requires : tie.Need-room-requires
+room-requires c κs = search needs
+
+short-requires : tie.Need-short-requires
+short-requires c κs = search needs
+
 returns : tie.Need-returns
-returns c = called-short (lt-ltb _ _ (c .if1 .taken)) ((refl, refl), refl)
+returns c = called-short (area-short (c .before .before .room .ensures) (c .before .if1 .taken)) ((c .short .ensures, refl), refl)
 
 read-net-requires : tie.Need-read-net-requires
 read-net-requires c κs = search needs
@@ -28,12 +33,14 @@ same-length-4 : tie.Need-same-length-4
 same-length-4 c = search needs
 
 returns-2 : tie.Need-returns-2
-returns-2 c = called (le-ltb _ _ (c .before .before .before .before .before .before .before .before .before .before .before .before .if1 .left)) (c .before .before .before .before .before .before .before .before .read-net .result, c .before .before .before .before .before .before .before .before .read-net .ensures, c .before .tell-reading .ensures)
+returns-2 c = called (area-long (c .before .before .before .before .before .before .before .before .before .before .before .before .before .room .ensures) (c .before .before .before .before .before .before .before .before .before .before .before .before .if1 .left)) (c .before .before .before .before .before .before .before .before .read-net .result, c .before .before .before .before .before .before .before .before .read-net .ensures, c .before .tell-reading .ensures)
 
 pub zombrict-read-spec : {M : Type 1} → statement M
 zombrict-read-spec =
     tie.close
     (tie.spec
+    room-requires
+    short-requires
     returns
     read-net-requires
     tell-reading-requires

@@ -12,24 +12,6 @@ use Rattle.columns.specs.Stores.{joined-load, joined-store}
 use Rattle.columns.proofs.cells.joined_at.Statement.{statement}
 use Rattle.columns.proofs.cells.joined_at.Tie as tie
 
-mul-t13 : tie.Need-mul-t13
-mul-t13 c = search needs
-
-slice-read-t15 : tie.Need-slice-read-t15
-slice-read-t15 c = search needs
-
-mul-t17 : tie.Need-mul-t17
-mul-t17 c = search needs
-
-slice-read-t19 : tie.Need-slice-read-t19
-slice-read-t19 c = search needs
-
-together-requires : tie.Need-together-requires
-together-requires c κs =
-    let s = c .before .before .before .before in
-    let a = s .args in
-    joined-load (a .loads .now) (a .times .now) (a .words .now) (a .i) (omega arith) (omega arith) (a .j) (omega arith) (omega arith) (s .pre .1 .1)
-
 mul-first : tie.Need-mul-first
 mul-first c = search needs
 
@@ -42,8 +24,23 @@ mul-second c = search needs
 slice-copy-out-second : tie.Need-slice-copy-out-second
 slice-copy-out-second c = search needs
 
-earlier-requires : tie.Need-earlier-requires
-earlier-requires c κs = search needs
+mul-t14 : tie.Need-mul-t14
+mul-t14 c = search needs
+
+slice-read-t19 : tie.Need-slice-read-t19
+slice-read-t19 c = search needs
+
+mul-t22 : tie.Need-mul-t22
+mul-t22 c = search needs
+
+slice-read-t24 : tie.Need-slice-read-t24
+slice-read-t24 c = search needs
+
+joined-requires : tie.Need-joined-requires
+joined-requires c κs =
+    let s = c .before .before .before .before .before .before in
+    let a = s .args in
+    joined-load (a .loads .now) (a .times .now) (a .words .now) (a .i) (omega arith) (omega arith) (a .j) (omega arith) (omega arith) (s .pre .1 .1)
 
 mul-loads : tie.Need-mul-loads
 mul-loads c = search needs
@@ -71,28 +68,27 @@ same-length-3 c = search needs
 
 returns : tie.Need-returns
 returns c =
-    let s = c .before .before .before .before .before .before .before .before .before .before .before .before .before in
+    let s = c .before .before .before .before .before .before .before .before .before .before .before .before .before .before in
     let a = s .args in
-    let t = c .before .before .before .before .before .earlier in
-    let e = bits-back (getD (a .times .now) (a .i) (pos 0)) (c .before .before .before .before .before .before .before .first .given) in
-    let f = bits-back (getD (a .times .now) (a .j) (pos 0)) (c .before .before .before .before .before .before .second .given) in
-    let least : t .result .0 ≡ minℤ (toZ w64 (ofZ w64 (getD (a .times .now) (a .i) (pos 0)))) (toZ w64 (ofZ w64 (getD (a .times .now) (a .j) (pos 0)))) = t .ensures .0 in
-    rw (bits-back (t .result .0) (omega arith)) (joined-store (a .loads .now) (a .times .now) (a .words .now) (a .i) (omega arith) (omega arith) (a .j) (omega arith) (omega arith) _ (a .o) (c .before .before .before .before .before .before .before .before .together .result .0) (t .result .0) (c .before .before .before .before .before .before .before .before .together .ensures) (least ∙ ap₂ minℤ e f) (c .before .before .join-words .ensures))
+    let t = c .before .before .before .before .before .before .before .joined in
+    let e = bits-back (getD (a .times .now) (a .i) (pos 0)) (c .before .before .before .before .before .before .before .before .before .before .before .first .given) in
+    let f = bits-back (getD (a .times .now) (a .j) (pos 0)) (c .before .before .before .before .before .before .before .before .before .before .second .given) in
+    let least : t .result .time .0 ≡ minℤ (toZ w64 (ofZ w64 (getD (a .times .now) (a .i) (pos 0)))) (toZ w64 (ofZ w64 (getD (a .times .now) (a .j) (pos 0)))) = t .ensures .0 in
+    rw (bits-back (t .result .time .0) (omega arith)) (joined-store (a .loads .now) (a .times .now) (a .words .now) (a .i) (omega arith) (omega arith) (a .j) (omega arith) (omega arith) _ (a .o) (t .result .load .0) (t .result .time .0) (t .ensures .1) (least ∙ ap₂ minℤ e f) (c .before .before .join-words .ensures))
 
 pub joined-at-spec : {M : Type 1} → statement M
 joined-at-spec =
     tie.close
     (tie.spec
-    mul-t13
-    slice-read-t15
-    mul-t17
-    slice-read-t19
-    together-requires
     mul-first
     slice-copy-out-first
     mul-second
     slice-copy-out-second
-    earlier-requires
+    mul-t14
+    slice-read-t19
+    mul-t22
+    slice-read-t24
+    joined-requires
     mul-loads
     slice-write-loads
     mul-time

@@ -6,7 +6,7 @@ use native.Mathlib.Omega.{arith}
 use Rattle.rules.specs.Entries.{Entry}
 use Rattle.rules.specs.Tables.{from, rowEntry}
 use Rattle.entries.specs.Lines.{lineFor}
-use Rattle.entries.specs.Checks.{FewPassed, placeAt}
+use Rattle.checks.specs.Checks.{FewPassed, placeAt}
 use Rattle.entries.specs.Entries.{rowEntryOf}
 use Rattle.entries.specs.Held.{Holds}
 use Rattle.net.specs.TableSteps.{tablesOf, Through}

@@ -5,8 +5,8 @@ use mathlib.Core.List.{List, []}
 use native.Mathlib.Omega.{arith}
 use lib.IntN.{ℤ}
 use Rattle.rules.specs.Tables.{from, typeEntry}
-use Rattle.entries.specs.declared.Line.the-variants.{Repeater as TypeLine}
-use Rattle.entries.specs.Checks.{FewPassed, placeAt}
+use Rattle.checks.specs.declared.Line.the-variants.{Repeater as TypeLine}
+use Rattle.checks.specs.Checks.{FewPassed, placeAt}
 use Rattle.net.specs.TableSteps.{tablesOf, Through}
 use Rattle.net.specs.Taking.{line-room}
 use Rattle.net.specs.ReadLaws.{holds-nothing}

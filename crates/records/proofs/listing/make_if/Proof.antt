@@ -54,28 +54,22 @@ use Rattle.rules.proofs.Checking as Y
 use Rattle.rules.proofs.Checking.Laws as Y′
 use Rattle.rules.proofs.Planning as Q
 use Rattle.rules.proofs.Planning.Laws as Q′
-use Rattle.records.specs.Listings.{MakesIf, SeenIf, makes-if, seen-if, seen-not}
-use Rattle.records.specs.Planning.{accepted-is, refused-is}
+use Rattle.records.specs.Listings.{MakesIf, SeenIf}
+use Rattle.records.specs.Entries.{if-accepted, accepted-if, refused-if}
 use Rattle.rules.specs.declared.Cand.{Cand}
-use Rattle.runs.specs.declared.turns.Pass.{Pass}
-use Rattle.records.specs.declared.jobs.Job.{Job}
 use Rattle.rules.proofs.Cand as T
 use Rattle.rules.proofs.Cand.Laws as T′
-use Rattle.runs.proofs.turns.Pass as P
-use Rattle.runs.proofs.turns.Pass.Laws as P′
-use Rattle.records.proofs.jobs.Job as J
-use Rattle.records.proofs.jobs.Job.Laws as J′
-use Rattle.records.specs.declared.walk.Kin.{Kin}
-use Rattle.records.proofs.walk.Kin as N
-use Rattle.records.proofs.walk.Kin.Laws as N′
+use Rattle.turns.specs.declared.Pass.{Pass}
+use Rattle.turns.proofs.Pass as P
+use Rattle.turns.proofs.Pass.Laws as P′
 use Rattle.records.proofs.PlanCalls.{IsAccepted, to-is-accepted, is-accepted-vals, is-accepted-says, goes-is-accepted, gets-is-accepted}
 use Rattle.records.proofs.is_accepted.Symbol as is-accepted-def
 use Rattle.records.proofs.is_accepted.Symbol.{name as #is-accepted}
 use Rattle.records.proofs.is_accepted.Met as is-accepted-thm
-use Rattle.records.proofs.EntryCalls.{Make, to-make, make-vals, make-says, goes-make, gets-make}
-use Rattle.records.proofs.walk.make.Symbol as make-def
-use Rattle.records.proofs.walk.make.Symbol.{name as #make}
-use Rattle.records.proofs.walk.make.Met as make-thm
+use Rattle.sights.proofs.SightCalls.{Make, to-make, make-vals, make-says, goes-make, gets-make}
+use Rattle.sights.proofs.make.Symbol as make-def
+use Rattle.sights.proofs.make.Symbol.{name as #make}
+use Rattle.sights.proofs.make.Met as make-thm
 use Rattle.records.proofs.listing.make_if.Key.{name as #make-if}
 use Rattle.records.proofs.listing.make_if as f
 use Rattle.records.proofs.listing.make_if.Statement as stated
@@ -133,7 +127,7 @@ module _ {M : Type 1} (𝓤 : URA M) (H : Heap 𝓤) (A : Atoms 𝓤) (W : Given
     walk : Room T.the-row m-run → Room u32 (length (t-rows .now)) → Room i64 (length (t-due .now)) → Room u32 (length (t-types .now)) → MakesIf (t-rows .now) (t-due .now) (t-types .now) count n row ys-run c → ent 𝓤 (onEntry 𝓤 H A f.signature (κ-run, (κ-rows, (κ-due, (κ-types, tt)))) (q-run, (q-rows, (q-due, (q-types, tt)))) handed machine) (WpFn 𝓤 H C Λ code.function (sliceVal (b-run, o-run) m-run ∷ sliceVal (t-rows .ptr) (length (t-rows .now)) ∷ sliceVal (t-due .ptr) (length (t-due .now)) ∷ sliceVal (t-types .ptr) (length (t-types .now)) ∷ vint w64 count ∷ vint w64 n ∷ vint w64 row ∷ EL.val Y.the-type Y′.the-laws c ∷ []) Post)
     walk room-run room-rows room-due room-types pre =
         qed W ((‵ (flft κ-run q-run) ⊛ (‵ (flft κ-rows q-rows) ⊛ (‵ (flft κ-due q-due) ⊛ (‵ (flft κ-types q-types) ⊛ ‵ ftrue)))) ∷ ‵ (owns (MutSlice (named 0) κ-run T.the-row ∷ ShrSlice (named 1) κ-rows u32 ∷ ShrSlice (named 2) κ-due i64 ∷ ShrSlice (named 3) κ-types u32 ∷ usize ∷ usize ∷ usize ∷ Y.the-row ∷ []) handed machine) ∷ []) ∵ enter ! C Λ code.function (sliceVal (b-run, o-run) m-run ∷ sliceVal (t-rows .ptr) (length (t-rows .now)) ∷ sliceVal (t-due .ptr) (length (t-due .now)) ∷ sliceVal (t-types .ptr) (length (t-types .now)) ∷ vint w64 count ∷ vint w64 n ∷ vint w64 row ∷ EL.val Y.the-type Y′.the-laws c ∷ []) _ $
-        alloc1 ! (λ l₀. alloc1 ! (λ l₁. alloc1 ! (λ l₂. alloc1 ! (λ l₃. alloc1 ! (λ l₄. alloc1 ! (λ l₅. alloc1 ! (λ l₆. alloc1 ! (λ l₇. alloc1 ! (λ l₈. alloc1 ! (λ l₉. alloc1 ! (λ l₁₀. alloc1 ! (λ l₁₁. alloc1 ! (λ l₁₂. alloc0 ! $ params1 ! $ pass1 ! (init ! 22 refl (tt, (tt, (record { fits = room-run .0 }, tt)))) $ pass1 ! (init ! 20 refl (tt, (tt, (record { fits = room-rows .0 }, tt)))) $ pass1 ! (init ! 18 refl (tt, (tt, (record { fits = room-due .0 }, tt)))) $ pass1 ! (init ! 16 refl (tt, (tt, (record { fits = room-types .0 }, tt)))) $ pass1 ! (init ! 14 refl (tt, record { fits = count-fits })) $ pass1 ! (init ! 12 refl (tt, record { fits = n-fits })) $ pass1 ! (init ! 10 refl (tt, record { fits = row-fits })) $ pass1 ! (init ! 8 refl (EL.lawful Y.the-type Y′.the-laws 𝓤 H A W tt .typed c _ c-is .0)) $ pass0 ! $ move ! (26 ∷ []) $ split ! $ move ! (1 ∷ []) $ split ! $ move ! (1 ∷ []) $ split ! $ move ! (1 ∷ []) $ split ! $ move ! (31 ∷ []) $ fsplit ! $ move ! (1 ∷ []) $ fsplit ! $ move ! (1 ∷ []) $ fsplit ! $ move ! (1 ∷ []) $ fsplit ! $ move ! (1 ∷ []) $ fsplit ! $ drop ! $ fsplit ! $ drop ! $ fsplit ! $ drop ! $ fsplit ! $ drop ! $ drop ! $ move ! (3 ∷ 8 ∷ 5 ∷ 7 ∷ 2 ∷ 6 ∷ 1 ∷ 4 ∷ 0 ∷ []) $ assigns ! (of-opd ! (lit ! tt)) (from ! (stop !)) (init ! 15 refl (tt, record { fits = lit< tt })) $ move ! (2 ∷ []) $ use1 W (raw (IsAccepted 𝓤 H A mem run .pre (to-is-accepted 𝓤 H A mem run W c))) (goes-is-accepted 𝓤 H A mem run W c c-is) $ calls-at ! fm (IsAccepted 𝓤 H A mem run) known-is-accepted (to-is-accepted 𝓤 H A mem run W c) (and-then ! (load ! (from ! (stop !)) (look ! 17 refl)) (no-more !)) (λ w₁. use1 W (later (some (λ (r : Bool). given (is-accepted-says 𝓤 H A mem run W c r w₁) (‵ (ftrue))))) (gets-is-accepted 𝓤 H A mem run W c w₁) $ await ! tt $ pick ! (λ r₁. learn ! (λ is₁. land ! (from ! (stop !)) (init ! 13 refl (typed-as (tyBool) w₁ (is₁ .0) (tt, tt))) $ rewrite ! 13 (λ (z : Val). ‵ (fat fullShare (tyBool) l₁₀ 0 z)) (is₁ .0) refl $ first ! $ branches ! (load ! (from ! (stop !)) (look ! 13 refl)) (λ yes. assigns ! (addr ! (from ! (fld ! refl (hop ! (look-in ! 31 (sub ! 0 refl (whole !))) (stop !))))) (from ! (stop !)) (init ! 11 refl (tt, tt)) $ assigns ! (agg ! (and-then ! (load ! (from ! (stop !)) (look ! 11 refl)) (and-then ! (load ! (from ! (fld ! refl (stop !))) (look-in ! 31 (sub ! 1 refl (whole !)))) (no-more !)))) (from ! (stop !)) (init ! 9 refl (tt, (tt, (record { fits = room-run .0 }, tt)))) $ move ! (4 ∷ []) $ use1 W (‵ (ShrSlice (named 1) κ-rows u32 .own t-rows (sliceVal (t-rows .ptr) (length (t-rows .now)) ∷ [])) ⊛ ‵ (ShrSlice (named 1) κ-rows u32 .own t-rows (sliceVal (t-rows .ptr) (length (t-rows .now)) ∷ []))) (shr-slice-copy 𝓤 H A W (named 1) κ-rows u32 .twice t-rows (sliceVal (t-rows .ptr) (length (t-rows .now)) ∷ [])) $ split ! $ move ! (7 ∷ []) $ use1 W (‵ (ShrSlice (named 2) κ-due i64 .own t-due (sliceVal (t-due .ptr) (length (t-due .now)) ∷ [])) ⊛ ‵ (ShrSlice (named 2) κ-due i64 .own t-due (sliceVal (t-due .ptr) (length (t-due .now)) ∷ []))) (shr-slice-copy 𝓤 H A W (named 2) κ-due i64 .twice t-due (sliceVal (t-due .ptr) (length (t-due .now)) ∷ [])) $ split ! $ move ! (10 ∷ []) $ use1 W (‵ (ShrSlice (named 3) κ-types u32 .own t-types (sliceVal (t-types .ptr) (length (t-types .now)) ∷ [])) ⊛ ‵ (ShrSlice (named 3) κ-types u32 .own t-types (sliceVal (t-types .ptr) (length (t-types .now)) ∷ []))) (shr-slice-copy 𝓤 H A W (named 3) κ-types u32 .twice t-types (sliceVal (t-types .ptr) (length (t-types .now)) ∷ [])) $ split ! $ move ! (2 ∷ 0 ∷ []) $ fjoin ! $ move ! (3 ∷ 0 ∷ []) $ fjoin ! $ move ! (9 ∷ 0 ∷ []) $ fjoin ! $ move ! (8 ∷ 0 ∷ []) $ fjoin ! $ move ! (7 ∷ 0 ∷ []) $ fjoin ! $ move ! (5 ∷ 6 ∷ 0 ∷ []) $ calls-out-last ! fm (fsep (flft κ-rows q-rows) (fsep (flft κ-due q-due) (fsep (flft κ-types q-types) (fsep (ShrSlice (named 1) κ-rows u32 .own t-rows (sliceVal (t-rows .ptr) (length (t-rows .now)) ∷ [])) (fsep (ShrSlice (named 2) κ-due i64 .own t-due (sliceVal (t-due .ptr) (length (t-due .now)) ∷ [])) (ShrSlice (named 3) κ-types u32 .own t-types (sliceVal (t-types .ptr) (length (t-types .now)) ∷ []))))))) (fsep (flft κ-rows q-rows) (fsep (flft κ-due q-due) (flft κ-types q-types))) T.the-row b-run o-run m-run ys-run refl room-run (make-says 𝓤 H A mem run W κ-rows q-rows t-rows κ-due q-due t-due κ-types q-types t-types b-run o-run m-run ys-run count n row) (λ ν δ. Make 𝓤 H A mem run .pre (to-make 𝓤 H A mem run W κ-rows q-rows t-rows κ-due q-due t-due κ-types q-types t-types b-run o-run m-run ys-run count n row ν δ)) (make-vals 𝓤 H A mem run W κ-rows q-rows t-rows κ-due q-due t-due κ-types q-types t-types b-run o-run m-run ys-run count n row) (λ ν δ w. Make 𝓤 H A mem run .post (to-make 𝓤 H A mem run W κ-rows q-rows t-rows κ-due q-due t-due κ-types q-types t-types b-run o-run m-run ys-run count n row ν δ) w) (goes-make 𝓤 H A mem run W κ-rows q-rows t-rows κ-due q-due t-due κ-types q-types t-types b-run o-run m-run ys-run count n row (makes-if (t-rows .now) (t-due .now) (t-types .now) count n row ys-run c pre (accepted-is c r₁ (is₁ .1 .1) yes)) count-fits n-fits row-fits) (λ ν δ. known-make (to-make 𝓤 H A mem run W κ-rows q-rows t-rows κ-due q-due t-due κ-types q-types t-types b-run o-run m-run ys-run count n row ν δ)) (gets-make 𝓤 H A mem run W κ-rows q-rows t-rows κ-due q-due t-due κ-types q-types t-types b-run o-run m-run ys-run count n row refl) (λ ν δ. and-then ! (load ! (from ! (stop !)) (look ! 6 refl)) (and-then ! (load ! (from ! (stop !)) (look ! 26 refl)) (and-then ! (load ! (from ! (stop !)) (look ! 24 refl)) (and-then ! (load ! (from ! (stop !)) (look ! 22 refl)) (and-then ! (load ! (from ! (stop !)) (look ! 20 refl)) (and-then ! (load ! (from ! (stop !)) (look ! 18 refl)) (and-then ! (load ! (from ! (stop !)) (look ! 16 refl)) (no-more !)))))))) (λ w₂ r₂ zs₂ len₂ is₂. move ! (2 ∷ []) $ fsplit ! $ move ! (1 ∷ []) $ fsplit ! $ land-last ! (from ! (stop !)) (store ! 15 refl (typed-as (tyInt w64) w₂ (is₂ .0) (tt, record { fits = is₂ .1 .0 }))) $ rewrite ! 15 (λ (z : Val). ‵ (fat fullShare (tyInt w64) l₉ 0 z)) (is₂ .0) refl $ exec ! C Λ (E l₀ l₁ l₂ l₃ l₄ l₅ l₆ l₇ l₈ l₉ l₁₀ l₁₁ l₁₂) M′.t-4 (atRet (E l₀ l₁ l₂ l₃ l₄ l₅ l₆ l₇ l₈ l₉ l₁₀ l₁₁ l₁₂) Post) $ assigns ! (of-opd ! (load ! (from ! (stop !)) (look ! 15 refl))) (from ! (stop !)) (init ! 33 refl (tt, record { fits = is₂ .1 .0 })) $ returns ! (look ! 33 refl) $ forget ! 9 refl $ forget ! 11 refl $ forget ! 13 refl $ forget ! 15 refl $ forget ! 17 refl $ forget ! 19 refl $ forget ! 21 refl $ forget ! 23 refl $ forget ! 25 refl $ forget ! 27 refl $ forget ! 29 refl $ forget ! 31 refl $ forget ! 33 refl $ move ! (33 ∷ 34 ∷ []) $ free1 ! $ move ! (31 ∷ 32 ∷ []) $ free1 ! $ move ! (29 ∷ 30 ∷ []) $ free1 ! $ move ! (27 ∷ 28 ∷ []) $ free1 ! $ move ! (25 ∷ 26 ∷ []) $ free1 ! $ move ! (23 ∷ 24 ∷ []) $ free1 ! $ move ! (21 ∷ 22 ∷ []) $ free1 ! $ move ! (19 ∷ 20 ∷ []) $ free1 ! $ move ! (17 ∷ 18 ∷ []) $ free1 ! $ move ! (15 ∷ 16 ∷ []) $ free1 ! $ move ! (13 ∷ 14 ∷ []) $ free1 ! $ move ! (11 ∷ 12 ∷ []) $ free1 ! $ move ! (9 ∷ 10 ∷ []) $ free1 ! $ free0 ! $ keep ! (3 ∷ 4 ∷ 2 ∷ 7 ∷ 0 ∷ 6 ∷ 1 ∷ 5 ∷ []) $ by ! (exits r₂ zs₂ (is₂ .1 .0) len₂ (seen-if (t-rows .now) (t-due .now) (t-types .now) count n row ys-run zs₂ c r₂ (accepted-is c r₁ (is₁ .1 .1) yes) (is₂ .1 .1))))) (λ no. skips ! $ exec ! C Λ (E l₀ l₁ l₂ l₃ l₄ l₅ l₆ l₇ l₈ l₉ l₁₀ l₁₁ l₁₂) M′.t-4 (atRet (E l₀ l₁ l₂ l₃ l₄ l₅ l₆ l₇ l₈ l₉ l₁₀ l₁₁ l₁₂) Post) $ assigns ! (of-opd ! (load ! (from ! (stop !)) (look ! 15 refl))) (from ! (stop !)) (init ! 33 refl (tt, record { fits = lit< tt })) $ returns ! (look ! 33 refl) $ forget ! 13 refl $ forget ! 15 refl $ forget ! 17 refl $ forget ! 19 refl $ forget ! 21 refl $ forget ! 23 refl $ forget ! 25 refl $ forget ! 27 refl $ forget ! 29 refl $ forget ! 31 refl $ forget ! 33 refl $ move ! (33 ∷ 34 ∷ []) $ free1 ! $ move ! (31 ∷ 32 ∷ []) $ free1 ! $ move ! (29 ∷ 30 ∷ []) $ free1 ! $ move ! (27 ∷ 28 ∷ []) $ free1 ! $ move ! (25 ∷ 26 ∷ []) $ free1 ! $ move ! (23 ∷ 24 ∷ []) $ free1 ! $ move ! (21 ∷ 22 ∷ []) $ free1 ! $ move ! (19 ∷ 20 ∷ []) $ free1 ! $ move ! (17 ∷ 18 ∷ []) $ free1 ! $ move ! (15 ∷ 16 ∷ []) $ free1 ! $ move ! (13 ∷ 14 ∷ []) $ free1 ! $ move ! (11 ∷ 12 ∷ []) $ free1 ! $ move ! (9 ∷ 10 ∷ []) $ free1 ! $ free0 ! $ keep ! (1 ∷ 2 ∷ 3 ∷ 4 ∷ 5 ∷ 6 ∷ 7 ∷ 8 ∷ []) $ by ! (exits 0 ys-run (lit< tt) refl (seen-not (t-rows .now) (t-due .now) (t-types .now) count n row ys-run c (refused-is c r₁ (is₁ .1 .1) no))))))))))))))))))))
+        alloc1 ! (λ l₀. alloc1 ! (λ l₁. alloc1 ! (λ l₂. alloc1 ! (λ l₃. alloc1 ! (λ l₄. alloc1 ! (λ l₅. alloc1 ! (λ l₆. alloc1 ! (λ l₇. alloc1 ! (λ l₈. alloc1 ! (λ l₉. alloc1 ! (λ l₁₀. alloc1 ! (λ l₁₁. alloc1 ! (λ l₁₂. alloc0 ! $ params1 ! $ pass1 ! (init ! 22 refl (tt, (tt, (record { fits = room-run .0 }, tt)))) $ pass1 ! (init ! 20 refl (tt, (tt, (record { fits = room-rows .0 }, tt)))) $ pass1 ! (init ! 18 refl (tt, (tt, (record { fits = room-due .0 }, tt)))) $ pass1 ! (init ! 16 refl (tt, (tt, (record { fits = room-types .0 }, tt)))) $ pass1 ! (init ! 14 refl (tt, record { fits = count-fits })) $ pass1 ! (init ! 12 refl (tt, record { fits = n-fits })) $ pass1 ! (init ! 10 refl (tt, record { fits = row-fits })) $ pass1 ! (init ! 8 refl (EL.lawful Y.the-type Y′.the-laws 𝓤 H A W tt .typed c _ c-is .0)) $ pass0 ! $ move ! (26 ∷ []) $ split ! $ move ! (1 ∷ []) $ split ! $ move ! (1 ∷ []) $ split ! $ move ! (1 ∷ []) $ split ! $ move ! (31 ∷ []) $ fsplit ! $ move ! (1 ∷ []) $ fsplit ! $ move ! (1 ∷ []) $ fsplit ! $ move ! (1 ∷ []) $ fsplit ! $ move ! (1 ∷ []) $ fsplit ! $ drop ! $ fsplit ! $ drop ! $ fsplit ! $ drop ! $ fsplit ! $ drop ! $ drop ! $ move ! (3 ∷ 8 ∷ 5 ∷ 7 ∷ 2 ∷ 6 ∷ 1 ∷ 4 ∷ 0 ∷ []) $ assigns ! (of-opd ! (lit ! tt)) (from ! (stop !)) (init ! 15 refl (tt, record { fits = lit< tt })) $ move ! (2 ∷ []) $ use1 W (raw (IsAccepted 𝓤 H A mem run .pre (to-is-accepted 𝓤 H A mem run W c))) (goes-is-accepted 𝓤 H A mem run W c c-is) $ calls-at ! fm (IsAccepted 𝓤 H A mem run) known-is-accepted (to-is-accepted 𝓤 H A mem run W c) (and-then ! (load ! (from ! (stop !)) (look ! 17 refl)) (no-more !)) (λ w₁. use1 W (later (some (λ (r : Bool). given (is-accepted-says 𝓤 H A mem run W c r w₁) (‵ (ftrue))))) (gets-is-accepted 𝓤 H A mem run W c w₁) $ await ! tt $ pick ! (λ r₁. learn ! (λ is₁. land ! (from ! (stop !)) (init ! 13 refl (typed-as (tyBool) w₁ (is₁ .0) (tt, tt))) $ rewrite ! 13 (λ (z : Val). ‵ (fat fullShare (tyBool) l₁₀ 0 z)) (is₁ .0) refl $ first ! $ branches ! (load ! (from ! (stop !)) (look ! 13 refl)) (λ yes. assigns ! (addr ! (from ! (fld ! refl (hop ! (look-in ! 31 (sub ! 0 refl (whole !))) (stop !))))) (from ! (stop !)) (init ! 11 refl (tt, tt)) $ assigns ! (agg ! (and-then ! (load ! (from ! (stop !)) (look ! 11 refl)) (and-then ! (load ! (from ! (fld ! refl (stop !))) (look-in ! 31 (sub ! 1 refl (whole !)))) (no-more !)))) (from ! (stop !)) (init ! 9 refl (tt, (tt, (record { fits = room-run .0 }, tt)))) $ move ! (4 ∷ []) $ use1 W (‵ (ShrSlice (named 1) κ-rows u32 .own t-rows (sliceVal (t-rows .ptr) (length (t-rows .now)) ∷ [])) ⊛ ‵ (ShrSlice (named 1) κ-rows u32 .own t-rows (sliceVal (t-rows .ptr) (length (t-rows .now)) ∷ []))) (shr-slice-copy 𝓤 H A W (named 1) κ-rows u32 .twice t-rows (sliceVal (t-rows .ptr) (length (t-rows .now)) ∷ [])) $ split ! $ move ! (7 ∷ []) $ use1 W (‵ (ShrSlice (named 2) κ-due i64 .own t-due (sliceVal (t-due .ptr) (length (t-due .now)) ∷ [])) ⊛ ‵ (ShrSlice (named 2) κ-due i64 .own t-due (sliceVal (t-due .ptr) (length (t-due .now)) ∷ []))) (shr-slice-copy 𝓤 H A W (named 2) κ-due i64 .twice t-due (sliceVal (t-due .ptr) (length (t-due .now)) ∷ [])) $ split ! $ move ! (10 ∷ []) $ use1 W (‵ (ShrSlice (named 3) κ-types u32 .own t-types (sliceVal (t-types .ptr) (length (t-types .now)) ∷ [])) ⊛ ‵ (ShrSlice (named 3) κ-types u32 .own t-types (sliceVal (t-types .ptr) (length (t-types .now)) ∷ []))) (shr-slice-copy 𝓤 H A W (named 3) κ-types u32 .twice t-types (sliceVal (t-types .ptr) (length (t-types .now)) ∷ [])) $ split ! $ move ! (2 ∷ 0 ∷ []) $ fjoin ! $ move ! (3 ∷ 0 ∷ []) $ fjoin ! $ move ! (9 ∷ 0 ∷ []) $ fjoin ! $ move ! (8 ∷ 0 ∷ []) $ fjoin ! $ move ! (7 ∷ 0 ∷ []) $ fjoin ! $ move ! (5 ∷ 6 ∷ 0 ∷ []) $ calls-out-last ! fm (fsep (flft κ-rows q-rows) (fsep (flft κ-due q-due) (fsep (flft κ-types q-types) (fsep (ShrSlice (named 1) κ-rows u32 .own t-rows (sliceVal (t-rows .ptr) (length (t-rows .now)) ∷ [])) (fsep (ShrSlice (named 2) κ-due i64 .own t-due (sliceVal (t-due .ptr) (length (t-due .now)) ∷ [])) (ShrSlice (named 3) κ-types u32 .own t-types (sliceVal (t-types .ptr) (length (t-types .now)) ∷ []))))))) (fsep (flft κ-rows q-rows) (fsep (flft κ-due q-due) (flft κ-types q-types))) T.the-row b-run o-run m-run ys-run refl room-run (make-says 𝓤 H A mem run W κ-rows q-rows t-rows κ-due q-due t-due κ-types q-types t-types b-run o-run m-run ys-run count n row) (λ ν δ. Make 𝓤 H A mem run .pre (to-make 𝓤 H A mem run W κ-rows q-rows t-rows κ-due q-due t-due κ-types q-types t-types b-run o-run m-run ys-run count n row ν δ)) (make-vals 𝓤 H A mem run W κ-rows q-rows t-rows κ-due q-due t-due κ-types q-types t-types b-run o-run m-run ys-run count n row) (λ ν δ w. Make 𝓤 H A mem run .post (to-make 𝓤 H A mem run W κ-rows q-rows t-rows κ-due q-due t-due κ-types q-types t-types b-run o-run m-run ys-run count n row ν δ) w) (goes-make 𝓤 H A mem run W κ-rows q-rows t-rows κ-due q-due t-due κ-types q-types t-types b-run o-run m-run ys-run count n row (if-accepted _ _ c r₁ (is₁ .1 .1) yes pre) count-fits n-fits row-fits) (λ ν δ. known-make (to-make 𝓤 H A mem run W κ-rows q-rows t-rows κ-due q-due t-due κ-types q-types t-types b-run o-run m-run ys-run count n row ν δ)) (gets-make 𝓤 H A mem run W κ-rows q-rows t-rows κ-due q-due t-due κ-types q-types t-types b-run o-run m-run ys-run count n row refl) (λ ν δ. and-then ! (load ! (from ! (stop !)) (look ! 6 refl)) (and-then ! (load ! (from ! (stop !)) (look ! 26 refl)) (and-then ! (load ! (from ! (stop !)) (look ! 24 refl)) (and-then ! (load ! (from ! (stop !)) (look ! 22 refl)) (and-then ! (load ! (from ! (stop !)) (look ! 20 refl)) (and-then ! (load ! (from ! (stop !)) (look ! 18 refl)) (and-then ! (load ! (from ! (stop !)) (look ! 16 refl)) (no-more !)))))))) (λ w₂ r₂ zs₂ len₂ is₂. move ! (2 ∷ []) $ fsplit ! $ move ! (1 ∷ []) $ fsplit ! $ land-last ! (from ! (stop !)) (store ! 15 refl (typed-as (tyInt w64) w₂ (is₂ .0) (tt, record { fits = is₂ .1 .0 }))) $ rewrite ! 15 (λ (z : Val). ‵ (fat fullShare (tyInt w64) l₉ 0 z)) (is₂ .0) refl $ exec ! C Λ (E l₀ l₁ l₂ l₃ l₄ l₅ l₆ l₇ l₈ l₉ l₁₀ l₁₁ l₁₂) M′.t-4 (atRet (E l₀ l₁ l₂ l₃ l₄ l₅ l₆ l₇ l₈ l₉ l₁₀ l₁₁ l₁₂) Post) $ assigns ! (of-opd ! (load ! (from ! (stop !)) (look ! 15 refl))) (from ! (stop !)) (init ! 33 refl (tt, record { fits = is₂ .1 .0 })) $ returns ! (look ! 33 refl) $ forget ! 9 refl $ forget ! 11 refl $ forget ! 13 refl $ forget ! 15 refl $ forget ! 17 refl $ forget ! 19 refl $ forget ! 21 refl $ forget ! 23 refl $ forget ! 25 refl $ forget ! 27 refl $ forget ! 29 refl $ forget ! 31 refl $ forget ! 33 refl $ move ! (33 ∷ 34 ∷ []) $ free1 ! $ move ! (31 ∷ 32 ∷ []) $ free1 ! $ move ! (29 ∷ 30 ∷ []) $ free1 ! $ move ! (27 ∷ 28 ∷ []) $ free1 ! $ move ! (25 ∷ 26 ∷ []) $ free1 ! $ move ! (23 ∷ 24 ∷ []) $ free1 ! $ move ! (21 ∷ 22 ∷ []) $ free1 ! $ move ! (19 ∷ 20 ∷ []) $ free1 ! $ move ! (17 ∷ 18 ∷ []) $ free1 ! $ move ! (15 ∷ 16 ∷ []) $ free1 ! $ move ! (13 ∷ 14 ∷ []) $ free1 ! $ move ! (11 ∷ 12 ∷ []) $ free1 ! $ move ! (9 ∷ 10 ∷ []) $ free1 ! $ free0 ! $ keep ! (3 ∷ 4 ∷ 2 ∷ 7 ∷ 0 ∷ 6 ∷ 1 ∷ 5 ∷ []) $ by ! (exits r₂ zs₂ (is₂ .1 .0) len₂ (accepted-if _ _ c r₁ (is₁ .1 .1) yes (is₂ .1 .1))))) (λ no. skips ! $ exec ! C Λ (E l₀ l₁ l₂ l₃ l₄ l₅ l₆ l₇ l₈ l₉ l₁₀ l₁₁ l₁₂) M′.t-4 (atRet (E l₀ l₁ l₂ l₃ l₄ l₅ l₆ l₇ l₈ l₉ l₁₀ l₁₁ l₁₂) Post) $ assigns ! (of-opd ! (load ! (from ! (stop !)) (look ! 15 refl))) (from ! (stop !)) (init ! 33 refl (tt, record { fits = lit< tt })) $ returns ! (look ! 33 refl) $ forget ! 13 refl $ forget ! 15 refl $ forget ! 17 refl $ forget ! 19 refl $ forget ! 21 refl $ forget ! 23 refl $ forget ! 25 refl $ forget ! 27 refl $ forget ! 29 refl $ forget ! 31 refl $ forget ! 33 refl $ move ! (33 ∷ 34 ∷ []) $ free1 ! $ move ! (31 ∷ 32 ∷ []) $ free1 ! $ move ! (29 ∷ 30 ∷ []) $ free1 ! $ move ! (27 ∷ 28 ∷ []) $ free1 ! $ move ! (25 ∷ 26 ∷ []) $ free1 ! $ move ! (23 ∷ 24 ∷ []) $ free1 ! $ move ! (21 ∷ 22 ∷ []) $ free1 ! $ move ! (19 ∷ 20 ∷ []) $ free1 ! $ move ! (17 ∷ 18 ∷ []) $ free1 ! $ move ! (15 ∷ 16 ∷ []) $ free1 ! $ move ! (13 ∷ 14 ∷ []) $ free1 ! $ move ! (11 ∷ 12 ∷ []) $ free1 ! $ move ! (9 ∷ 10 ∷ []) $ free1 ! $ free0 ! $ keep ! (1 ∷ 2 ∷ 3 ∷ 4 ∷ 5 ∷ 6 ∷ 7 ∷ 8 ∷ []) $ by ! (exits 0 ys-run (lit< tt) refl (refused-if _ _ c r₁ (is₁ .1 .1) no (refl, refl))))))))))))))))))))
 
 module _ {M : Type 1} (𝓤 : URA M) (H : Heap 𝓤) (A : Atoms 𝓤) (W : Given 𝓤 H A) (mem : Memory → SProp 𝓤) (run : Routine → Fun 𝓤) (𝓣 : Tables 𝓤 H) (known-is-accepted : Triple 𝓤 (𝓣 .C #is-accepted) (IsAccepted 𝓤 H A mem run)) (known-make : Triple 𝓤 (𝓣 .C #make) (Make 𝓤 H A mem run)) where
   make-if-walks : Walks 𝓤 H A f.ended stayed (WpFn 𝓤 H (𝓣 .C) (𝓣 .Λ) code.function) (f.clauses 𝓤 H A mem run)
@@ -152,4 +146,4 @@ make-if-spec 𝓤 H 𝓜 𝓖 𝓡 =
     (tables 𝓤 H 𝓜 𝓡 code.env .C) (tables 𝓤 H 𝓜 𝓡 code.env .Λ) #make-if code.function (code.unfolded 𝓤 H 𝓜 𝓡)
     (make-if-meets 𝓤 H (𝓖 .A) (givenOf 𝓤 H 𝓜 𝓖) (𝓜 .mem) (𝓡 .run) (tablesOf 𝓤 H 𝓜 (tables 𝓤 H 𝓜 𝓡 code.env))
     (cited 𝓤 H (IsAccepted 𝓤 H (𝓖 .A) (𝓜 .mem) (𝓡 .run)) 𝓜 𝓡 code.env #is-accepted is-accepted-def.routine code.calls-records·is-accepted (is-accepted-thm.met 𝓤 H 𝓜 𝓖 𝓡))
-    (cited 𝓤 H (Make 𝓤 H (𝓖 .A) (𝓜 .mem) (𝓡 .run)) 𝓜 𝓡 code.env #make make-def.routine code.calls-records·walk·make (make-thm.met 𝓤 H 𝓜 𝓖 𝓡)))
+    (cited 𝓤 H (Make 𝓤 H (𝓖 .A) (𝓜 .mem) (𝓡 .run)) 𝓜 𝓡 code.env #make make-def.routine code.calls-sights·make (make-thm.met 𝓤 H 𝓜 𝓖 𝓡)))

@@ -43,12 +43,12 @@ use denote.Triple.Statement.{Triple}
 use denote.Triple.Table.{entered, cited}
 use denote.Triple.Walked.{says, needs, Stays, stay-slice, stay-none, walkOf, Walks, ends-at, walked, goes-slice, goes-none, walk-meets}
 use Rattle.rules.specs.declared.Cand.{Cand}
-use Rattle.runs.specs.declared.turns.Pass.{Pass}
+use Rattle.turns.specs.declared.Pass.{Pass}
 use Rattle.runs.specs.Passes.{Ready, Took, Safe, Swept, none}
 use Rattle.runs.specs.Sweeps.{took-less, safe-ready, safe-took, swept-took}
 use Rattle.rules.proofs.Cand as T
-use Rattle.runs.proofs.turns.Pass as P
-use Rattle.runs.proofs.turns.Pass.Laws as P′
+use Rattle.turns.proofs.Pass as P
+use Rattle.turns.proofs.Pass.Laws as P′
 use Rattle.runs.proofs.Lending.{Slice, calls-out-last}
 use Rattle.runs.proofs.Calls.{TurnAt, to-turn-at, turn-at-vals, turn-at-says, goes-turn-at, gets-turn-at}
 use Rattle.runs.proofs.passes.turn_at.Symbol as turn-at-def
@@ -81,7 +81,7 @@ test false f g = g refl tt
 
 -- a pass, as the function's own table of types has it
 abbrev pass-ty : Ty
-pass-ty = spell M′.table (tyNamed (114 ∷ 117 ∷ 110 ∷ 115 ∷ 58 ∷ 58 ∷ 116 ∷ 117 ∷ 114 ∷ 110 ∷ 115 ∷ 58 ∷ 58 ∷ 80 ∷ 97 ∷ 115 ∷ 115 ∷ [], []))
+pass-ty = spell M′.table (tyNamed (116 ∷ 117 ∷ 114 ∷ 110 ∷ 115 ∷ 58 ∷ 58 ∷ 80 ∷ 97 ∷ 115 ∷ 115 ∷ [], []))
 
 abbrev slice : Ty
 slice = sliceTy (tyRef (named 0) mut (pointee (R .written)))

@@ -42,22 +42,22 @@ use denote.Triple.Call.{calls-at}
 use denote.Triple.Walked.{says, needs, Stays, stay-slice, stay-none, walkOf, Walks, ends-at, walked, goes-slice, goes-none, walk-meets}
 use Rattle.rules.specs.Quantities.{workRoom}
 use Rattle.rules.specs.declared.Cand.{Cand}
-use Rattle.runs.specs.declared.turns.Pass.{Pass}
-use Rattle.runs.specs.declared.turns.Turn.{Turn}
+use Rattle.turns.specs.declared.Pass.{Pass}
+use Rattle.turns.specs.declared.Turn.{Turn}
 use Rattle.rules.specs.Promises.{zeros}
-use Rattle.runs.specs.Records.{candOf}
-use Rattle.runs.specs.Turns.{Here, Can, Turned}
+use Rattle.turns.specs.Records.{candOf}
+use Rattle.turns.specs.Turns.{Here, Can, Turned}
 use Rattle.runs.specs.Passes.{Ready, Took, first, second}
 use Rattle.rules.proofs.Cand as T
 use Rattle.rules.proofs.Cand.Laws as T′
-use Rattle.runs.proofs.turns.Pass as P
-use Rattle.runs.proofs.turns.Pass.Laws as P′
-use Rattle.runs.proofs.turns.Turn as U
-use Rattle.runs.proofs.turns.Turn.Laws as U′
-use Rattle.runs.proofs.turns.turn_of as turn-of
-use Rattle.runs.proofs.turns.turn_of.Symbol as turn-of-def
-use Rattle.runs.proofs.turns.turn_of.Symbol.{name as #turn-of}
-use Rattle.runs.proofs.turns.turn_of.Met as turn-of-thm
+use Rattle.turns.proofs.Pass as P
+use Rattle.turns.proofs.Pass.Laws as P′
+use Rattle.turns.proofs.Turn as U
+use Rattle.turns.proofs.Turn.Laws as U′
+use Rattle.turns.proofs.turn_of as turn-of
+use Rattle.turns.proofs.turn_of.Symbol as turn-of-def
+use Rattle.turns.proofs.turn_of.Symbol.{name as #turn-of}
+use Rattle.turns.proofs.turn_of.Met as turn-of-thm
 use Rattle.runs.proofs.passes.turn_at.Key.{name as #turn-at}
 use Rattle.runs.proofs.passes.turn_at as f
 use Rattle.runs.proofs.passes.turn_at.Statement as stated
@@ -218,4 +218,4 @@ turn-at-spec 𝓤 H 𝓜 𝓖 𝓡 =
     entered 𝓤 H (tripleOf 𝓤 H (𝓖 .A) f.signature (f.spec 𝓤 H (𝓖 .A) (𝓜 .mem) (𝓡 .run)))
     (tables 𝓤 H 𝓜 𝓡 code.env .C) (tables 𝓤 H 𝓜 𝓡 code.env .Λ) #turn-at code.function (code.unfolded 𝓤 H 𝓜 𝓡)
     (turn-at-meets 𝓤 H (𝓖 .A) (givenOf 𝓤 H 𝓜 𝓖) (𝓜 .mem) (𝓡 .run) (tablesOf 𝓤 H 𝓜 (tables 𝓤 H 𝓜 𝓡 code.env))
-    (cited 𝓤 H (TurnOf 𝓤 H (𝓖 .A) (𝓜 .mem) (𝓡 .run)) 𝓜 𝓡 code.env #turn-of turn-of-def.routine code.calls-runs·turns·turn-of (turn-of-thm.met 𝓤 H 𝓜 𝓖 𝓡)))
+    (cited 𝓤 H (TurnOf 𝓤 H (𝓖 .A) (𝓜 .mem) (𝓡 .run)) 𝓜 𝓡 code.env #turn-of turn-of-def.routine code.calls-turns·turn-of (turn-of-thm.met 𝓤 H 𝓜 𝓖 𝓡)))

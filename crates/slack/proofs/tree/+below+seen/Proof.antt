@@ -14,11 +14,13 @@ use Rattle.slack.proofs.tree.seen.Reads as seen
 use Rattle.slack.proofs.tree.seen.Kinds as seen-kinds
 use Rattle.slack.proofs.tree.+below+seen.Lts-seen as seen-lts
 use Rattle.rows.proofs.row_at.Reads as row-at-reads
+use Rattle.rows.proofs.first_below.Reads as first-below-reads
+use Rattle.rows.proofs.next_beside.Reads as next-beside-reads
+use Rattle.rows.proofs.sites_before.Reads as sites-before-reads
 use Rattle.slack.proofs.steps.behind_wire.Reads as behind-wire-reads
 use Rattle.slack.proofs.steps.beside.Reads as beside-reads
 use Rattle.slack.proofs.steps.sited.Reads as sited-reads
 use Rattle.slack.proofs.steps.started.Reads as started-reads
-use Rattle.slack.proofs.tree.link_at.Reads as link-at-reads
 use Rattle.slack.proofs.tree.+below+seen.{statement}
 use Rattle.slack.proofs.tree.+below+seen.Tie.{close}
 
@@ -42,12 +44,14 @@ seen-below t = and 5 seen-kinds.ps (falls 5 seen-kinds.ps _<_ μ-seen t) seen.Pr
 
 abbrev seen-claims : ℕ → seen-lts.Claims
 seen-claims t = (
-  link-at-reads.Asked,
-  link-at-reads.Learnt,
+  first-below-reads.Asked,
+  first-below-reads.Learnt,
   below-below t,
   below.Post,
   row-at-reads.Asked,
   row-at-reads.Learnt,
+  sites-before-reads.Asked,
+  sites-before-reads.Learnt,
   started-reads.Asked,
   started-reads.Learnt,
   sited-reads.Asked,
@@ -62,8 +66,8 @@ below-claims t = (
   seen.Post,
   behind-wire-reads.Asked,
   behind-wire-reads.Learnt,
-  link-at-reads.Asked,
-  link-at-reads.Learnt,
+  next-beside-reads.Asked,
+  next-beside-reads.Learnt,
   below-below t,
   below.Post,
   beside-reads.Asked,
@@ -90,11 +94,8 @@ below-behind-wire-requires t c κs =
     let more : s .args .c < s .args .n = omega (arith, c .before .before .if1 .left) in
     wire-needs (s .pre .1 .0) (s .args .c) (s .pre .1 .1 .0) more (c .before .row-at .ensures) (c .seen .ensures)
 
-below-add-link-at : (t : ℕ) → below-lts.Need-add-link-at (below-claims t) (below-at t) below.Post
-below-add-link-at t c = omega (arith, c .before .before .before .before .before .before .before .before .pre .1 .0 .sound .standing .few)
-
-below-link-at-requires : (t : ℕ) → below-lts.Need-link-at-requires (below-claims t) (below-at t) below.Post
-below-link-at-requires t c κs =
+below-next-beside-requires : (t : ℕ) → below-lts.Need-next-beside-requires (below-claims t) (below-at t) below.Post
+below-next-beside-requires t c κs =
     let r = c .before .before .before .before .before .before .before .before .pre .1 .0 in
     omega (arith, r .sound .standing .few, r .linked .long, c .before .before .before .if1 .left)
 
@@ -103,7 +104,7 @@ below-below-requires t c κs =
     let s = c .before .before .before .before .before .before .before .before .before in
     let r = s .pre .1 .0 in
     let more : s .args .c < s .args .n = omega (arith, c .before .before .before .before .if1 .left) in
-    let k = next-child r (s .args .c) (s .pre .1 .1 .0) more (c .link-at .ensures) in
+    let k = next-child r (s .args .c) (s .pre .1 .1 .0) more (c .next-beside .ensures) in
     let l = rows-length (s .args .rows .now) (s .args .due .now) 0 (s .args .n) in
     (omega (arith, k .from, r .sound .standing .few), (r, (omega (arith, k .from), omega (arith, k .upto))))
 
@@ -111,16 +112,16 @@ below-beside-requires : (t : ℕ) → below-lts.Need-beside-requires (below-clai
 below-beside-requires t c κs =
     let s = c .before .before .before .before .before .before .before .before .before .before in
     let more : s .args .c < s .args .n = omega (arith, c .before .before .before .before .before .if1 .left) in
-    beside-needs (s .pre .1 .0) (s .args .c) (s .pre .1 .1 .0) more (c .before .before .before .before .row-at .ensures) (c .before .before .before .seen .ensures) (c .before .before .behind-wire .ensures) (c .before .link-at .ensures) (c .below .ensures)
+    beside-needs (s .pre .1 .0) (s .args .c) (s .pre .1 .1 .0) more (c .before .before .before .before .row-at .ensures) (c .before .before .before .seen .ensures) (c .before .before .behind-wire .ensures) (c .before .next-beside .ensures) (c .below .ensures)
 
 below-returns-2 : (t : ℕ) → below-lts.Need-returns-2 (below-claims t) (below-at t) below.Post
 below-returns-2 t c =
     let s = c .before .before .before .before .before .before .before .before .before .before .before in
     let more : s .args .c < s .args .n = omega (arith, c .before .before .before .before .before .before .if1 .left) in
-    below-step (s .pre .1 .0) (s .args .c) (s .pre .1 .1 .0) more (c .before .before .before .before .before .row-at .ensures) (c .before .before .before .before .seen .ensures) (c .before .before .before .behind-wire .ensures) (c .before .before .link-at .ensures) (c .before .below .ensures) (c .beside .ensures)
+    below-step (s .pre .1 .0) (s .args .c) (s .pre .1 .1 .0) more (c .before .before .before .before .before .row-at .ensures) (c .before .before .before .before .seen .ensures) (c .before .before .before .behind-wire .ensures) (c .before .before .next-beside .ensures) (c .before .below .ensures) (c .beside .ensures)
 
-seen-link-at-requires : (t : ℕ) → seen-lts.Need-link-at-requires (seen-claims t) (seen-at t) seen.Post
-seen-link-at-requires t c κs =
+seen-first-below-requires : (t : ℕ) → seen-lts.Need-first-below-requires (seen-claims t) (seen-at t) seen.Post
+seen-first-below-requires t c κs =
     let r = c .before .before .before .before .pre .1 .0 in
     omega (arith, r .sound .standing .few, r .linked .long)
 
@@ -128,18 +129,15 @@ seen-below-requires : (t : ℕ) → seen-lts.Need-below-requires (seen-claims t)
 seen-below-requires t c κs =
     let s = c .before .before .before .before .before in
     let r = s .pre .1 .0 in
-    let k = first-child r (s .args .row) (s .pre .1 .1) (c .link-at .ensures) in
+    let k = first-child r (s .args .row) (s .pre .1 .1) (c .first-below .ensures) in
     let l = rows-length (s .args .rows .now) (s .args .due .now) 0 (s .args .n) in
     (omega (arith, k .from, r .sound .standing .few), (r, (omega (arith, k .from), omega (arith, k .upto))))
 
 seen-row-at-requires : (t : ℕ) → seen-lts.Need-row-at-requires (seen-claims t) (seen-at t) seen.Post
 seen-row-at-requires t c κs = let o = c .before .before .before .before .before .before .pre .1 .0 .sound .standing in omega (arith, o .few, o .rows-long, o .due-long)
 
-seen-add-link-at : (t : ℕ) → seen-lts.Need-add-link-at (seen-claims t) (seen-at t) seen.Post
-seen-add-link-at t c = omega (arith, c .before .before .before .before .before .before .before .pre .1 .0 .sound .standing .few)
-
-seen-link-at-requires-2 : (t : ℕ) → seen-lts.Need-link-at-requires-2 (seen-claims t) (seen-at t) seen.Post
-seen-link-at-requires-2 t c κs =
+seen-sites-before-requires : (t : ℕ) → seen-lts.Need-sites-before-requires (seen-claims t) (seen-at t) seen.Post
+seen-sites-before-requires t c κs =
     let r = c .before .before .before .before .before .before .before .pre .1 .0 in
     omega (arith, r .sound .standing .few, r .linked .long)
 
@@ -149,12 +147,12 @@ seen-started-requires t c κs = tt
 seen-sited-requires : (t : ℕ) → seen-lts.Need-sited-requires (seen-claims t) (seen-at t) seen.Post
 seen-sited-requires t c κs =
     let s = c .before .before .before .before .before .before .before .before .before in
-    site-needs (s .pre .1 .0) (s .args .row) (s .pre .1 .1) (c .before .before .row-at .ensures) (c .before .before .before .before .link-at .ensures) (c .before .before .before .below .ensures) (c .before .link-at2 .ensures) (c .started .ensures)
+    site-needs (s .pre .1 .0) (s .args .row) (s .pre .1 .1) (c .before .before .row-at .ensures) (c .before .before .before .before .first-below .ensures) (c .before .before .before .below .ensures) (c .before .sites-before .ensures) (c .started .ensures)
 
 seen-returns : (t : ℕ) → seen-lts.Need-returns (seen-claims t) (seen-at t) seen.Post
 seen-returns t c =
     let s = c .before .before .before .before .before .before .before .before .before .before in
-    seen-step (s .pre .1 .0) (s .args .row) (s .pre .1 .1) (c .before .before .before .row-at .ensures) (c .before .before .before .before .before .link-at .ensures) (c .before .before .before .before .below .ensures) (c .before .before .link-at2 .ensures) (c .before .started .ensures) (c .sited .ensures)
+    seen-step (s .pre .1 .0) (s .args .row) (s .pre .1 .1) (c .before .before .before .row-at .ensures) (c .before .before .before .before .before .first-below .ensures) (c .before .before .before .before .below .ensures) (c .before .before .sites-before .ensures) (c .before .started .ensures) (c .sited .ensures)
 
 pub +below+seen-spec : {M : Type 1} → statement M
 +below+seen-spec = close μ-below μ-seen (λ t. below-lts.spec (below-claims t)
@@ -164,19 +162,17 @@ pub +below+seen-spec : {M : Type 1} → statement M
     (below-row-at-requires t)
     (below-seen-requires t)
     (below-behind-wire-requires t)
-    (below-add-link-at t)
-    (below-link-at-requires t)
+    (below-next-beside-requires t)
     (below-below-requires t)
     (below-beside-requires t)
     (below-returns-2 t))
     λ t. seen-lts.spec (seen-claims t)
     (seen-at t)
     seen.Post
-    (seen-link-at-requires t)
+    (seen-first-below-requires t)
     (seen-below-requires t)
     (seen-row-at-requires t)
-    (seen-add-link-at t)
-    (seen-link-at-requires-2 t)
+    (seen-sites-before-requires t)
     (seen-started-requires t)
     (seen-sited-requires t)
     (seen-returns t)

@@ -1,0 +1,52 @@
+-- `answers::tell_slacking` meets its contract: an answer told as it crosses. Assumes nothing.
+use mathlib.Core.Path.{refl, ap, _∙_}
+use native.Mathlib.Omega.{arith}
+use borrow.Author.Needs.{needs}
+use Rattle.rules.specs.Answers.{slackFigures, noTiming}
+use Rattle.units.specs.Bits.{bits-back}
+use Rattle.answers.specs.Crossing.{words-are, crossed-done, crossed-refused}
+use Rattle.answers.proofs.tell_slacking.Statement.{statement}
+use Rattle.answers.proofs.tell_slacking.Tie as tie
+
+enum-known-a : tie.Need-enum-known-a
+enum-known-a c = search needs
+
+wide-requires : tie.Need-wide-requires
+wide-requires c κs = search needs
+
+tell-requires : tie.Need-tell-requires
+tell-requires c κs = search needs
+
+enum-known-a-2 : tie.Need-enum-known-a-2
+enum-known-a-2 c = search needs
+
+tell-refusal-requires : tie.Need-tell-refusal-requires
+tell-refusal-requires c κs = search needs
+
+same-length : tie.Need-same-length
+same-length c = search needs
+
+returns : tie.Need-returns
+unfolding slackFigures noTiming
+returns c = crossed-done _ _ _ (ap slackFigures (c .before .before .before .before .before .before .a .given .1)) refl (c .before .tell .ensures .0) (words-are _ refl (bits-back _ (omega (arith, c .before .before .struct-told .given))) (bits-back _ (c .before .before .before .wide .ok) ∙ c .before .before .before .wide .ensures) (c .before .tell .ensures .1))
+
+same-length-2 : tie.Need-same-length-2
+same-length-2 c = search needs
+
+returns-2 : tie.Need-returns-2
+unfolding slackFigures noTiming
+returns-2 c = crossed-refused noTiming _ (ap slackFigures (c .before .before .before .before .a2 .given .1)) refl (c .before .tell-refusal .ensures)
+
+pub tell-slacking-spec : {M : Type 1} → statement M
+tell-slacking-spec =
+    tie.close
+    (tie.spec
+    enum-known-a
+    wide-requires
+    tell-requires
+    enum-known-a-2
+    tell-refusal-requires
+    same-length
+    returns
+    same-length-2
+    returns-2)

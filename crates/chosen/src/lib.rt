@@ -1,0 +1,146 @@
+// What is chosen of the list at a row, in a work area of exactly its room: a placement at the driver, or the list itself.
+use rooms::WORK_ROOM;
+use rules::Femtofarad;
+use rules::Femtosecond;
+ghost use mathlib.Core.Path.{_≡_};
+ghost use Prim.Native.Nat.{_+_, _*_, _≤_, _<_};
+ghost use lib.ListN.{length};
+ghost use Rattle.rules.specs.Lists.{written};
+ghost use Rattle.rules.specs.Quantities.{placementRoom, listRoom};
+ghost use Rattle.rules.specs.Promises.{PlanOf, ListOf};
+ghost use Rattle.laws.specs.Walk.{seenAt};
+ghost use Rattle.laws.specs.Tabled.{rowsFrom, repeatersFrom};
+ghost use Rattle.laws.specs.Checked.{tablesOf, countsOf, Passed};
+ghost use Rattle.columns.specs.Run.{run};
+ghost use Rattle.columns.specs.Made.{Room};
+ghost use Rattle.walks.specs.Made.{Made};
+ghost use Rattle.chosen.specs.Promised.{entriesOf, timingOf, Exact, Zeroed};
+ghost use Rattle.chosen.specs.Chosen.{lentOf, fourAt, Ready, Choice};
+
+// The slack of the placement chosen, and the load on the driver.
+pub struct Timing {
+    pub slack: Femtosecond,
+    pub load: Femtofarad,
+}
+
+// The list at a row, made at the start of the work area.
+fn make(
+    types: &[u32],
+    rows: &[u32],
+    due: &[i64],
+    count: usize,
+    n: usize,
+    loads: &mut [u32],
+    times: &mut [i64],
+    words: &mut [u64],
+    row: usize,
+) -> usize
+    requires { ⌜ Passed (tablesOf (now types) (now rows) (now due)) (countsOf count n) ⌝ }
+    requires { ⌜ row < n ⌝ }
+    requires { ⌜ Room (now loads) (now times) (now words) ⌝ }
+    ensures { λ len. ⌜ Made (repeatersFrom (now (types .entry)) 0 count) (seenAt (rowsFrom (now (rows .entry)) (now (due .entry)) 0 n) row) (run (now (loads .entry)) (now (times .entry)) (now (words .entry))) (run (now (loads .exit)) (now (times .exit)) (now (words .exit))) 0 len ⌝ }
+{
+    let mut links = [0u16; 768];
+    rows::backward::link_back(rows, due, n, &mut links);
+    walks::seen(
+        rows,
+        due,
+        types,
+        count,
+        &links,
+        loads,
+        times,
+        words,
+        n,
+        row,
+        0,
+    )
+}
+
+// The four words of candidate b, put at the start of a placement.
+fn put_placement(words: &[u64], b: usize, placement: &mut [u64])
+    requires { ⌜ (4 * b + 4 ≤ length (now words)) × (placementRoom ≤ length (now placement)) ⌝ }
+    ensures { λ _. ⌜ now (placement .exit) ≡ written (fourAt (now (words .entry)) b) (now (placement .entry)) ⌝ }
+{
+    let at = 4 * b;
+    placement[0] = words[at];
+    placement[1] = words[at + 1];
+    placement[2] = words[at + 2];
+    placement[3] = words[at + 3];
+}
+
+// Of the list at the driver the first greatest behind the driver, its placement put down.
+fn choose(
+    rows: &[u32],
+    due: &[i64],
+    loads: &[u32],
+    times: &[i64],
+    words: &[u64],
+    len: usize,
+    placement: &mut [u64],
+) -> Timing
+    requires { ⌜ Ready (now rows) (now due) (now loads) (now times) (now words) len (now placement) ⌝ }
+    ensures { λ r. ⌜ Choice (now (rows .entry)) (now (due .entry)) (run (now (loads .entry)) (now (times .entry)) (now (words .entry))) len (now (placement .entry)) (now (placement .exit)) (r .slack .0) (r .load .0) ⌝ }
+{
+    let driver = rows::row_at(rows, due, 0);
+    let r = driver.resistance;
+    let best = columns::choices::best_at(loads, times, 0, len, r);
+    let b = best.at;
+    let slack = best.value;
+    put_placement(words, b, placement);
+    Timing {
+        slack,
+        load: Femtofarad(loads[b]),
+    }
+}
+
+// In a work area of exactly its room: the list at the driver, the placement chosen of it, and the area left all zero.
+pub fn plan_in(
+    types: &[u32],
+    rows: &[u32],
+    due: &[i64],
+    count: usize,
+    n: usize,
+    placement: &mut [u64],
+    loads: &mut [u32],
+    times: &mut [i64],
+    words: &mut [u64],
+) -> Timing
+    requires { ⌜ Passed (tablesOf (now types) (now rows) (now due)) (countsOf count n) ⌝ }
+    requires { ⌜ (placementRoom ≤ length (now placement)) × Exact (now loads) (now times) (now words) ⌝ }
+    ensures planned { λ r. ⌜ PlanOf (entriesOf (now (types .entry)) (now (rows .entry)) (now (due .entry)) count n) (now (placement .entry)) (now (placement .exit)) (timingOf (r .slack .0) (r .load .0)) ⌝ }
+    ensures cleared { λ r. ⌜ Zeroed (now (loads .exit)) (now (times .exit)) (now (words .exit)) ⌝ }
+{
+    let len = make(types, rows, due, count, n, loads, times, words, 0);
+    let t = choose(rows, due, loads, times, words, len, placement);
+    clearing::clear(loads, times, words, WORK_ROOM);
+    t
+}
+
+// In a work area of exactly its room: the list at a row copied to the lent areas, and the area left all zero.
+pub fn list_in(
+    types: &[u32],
+    rows: &[u32],
+    due: &[i64],
+    count: usize,
+    n: usize,
+    row: usize,
+    list_loads: &mut [u32],
+    list_times: &mut [i64],
+    loads: &mut [u32],
+    times: &mut [i64],
+    words: &mut [u64],
+) -> usize
+    requires { ⌜ Passed (tablesOf (now types) (now rows) (now due)) (countsOf count n) ⌝ }
+    requires { ⌜ (row < n) × ((listRoom ≤ length (now «list_loads»)) × (listRoom ≤ length (now «list_times»))) ⌝ }
+    requires { ⌜ Exact (now loads) (now times) (now words) ⌝ }
+    ensures listed { λ len. ⌜ ListOf (entriesOf (now (types .entry)) (now (rows .entry)) (now (due .entry)) count n) row (lentOf (now («list_loads» .entry)) (now («list_times» .entry))) (lentOf (now («list_loads» .exit)) (now («list_times» .exit))) len ⌝ }
+    ensures cleared { λ len. ⌜ Zeroed (now (loads .exit)) (now (times .exit)) (now (words .exit)) ⌝ }
+    ensures few { λ len. ⌜ len ≤ listRoom ⌝ }
+{
+    let long = make(types, rows, due, count, n, loads, times, words, row);
+    entries::copies::copy_words(loads, list_loads, long);
+    entries::copies::copy_times(times, list_times, long);
+    clearing::clear(loads, times, words, WORK_ROOM);
+    long
+}

@@ -1,0 +1,5 @@
+pub mod Examples
+pub mod Given
+pub mod Kept
+pub mod StandIns
+pub mod StandInLists

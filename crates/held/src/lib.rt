@@ -1,0 +1,61 @@
+// The planner on a run of records of its own: each entry holds the run for its call, all zero, and lends it to the planner over records.
+use rules::Cand;
+use rules::Femtofarad;
+use rules::Femtosecond;
+use rules::Listing;
+use rules::Planning;
+ghost use mathlib.Core.Path.{_≡_};
+ghost use Rattle.rules.specs.Promises.{PlanPromise, ListPromise, records};
+ghost use Rattle.laws.specs.Checked.{tablesOf, countsOf};
+ghost use Rattle.chosen.specs.Chosen.{lentOf};
+ghost use Rattle.held.specs.Held.{blankRun};
+
+// A run of records, all zero.
+fn blank() -> [Cand; 768]
+    ensures { λ r. ⌜ r ≡ blankRun ⌝ }
+{
+    let none = turns::values::unmarked(Femtofarad(0), Femtosecond(0));
+    [none; 768]
+}
+
+// A placement of greatest slack, and of those the least load on the driver; its slack and that load.
+pub fn plan_held(
+    types: &[u32],
+    rows: &[u32],
+    due: &[i64],
+    type_count: usize,
+    row_count: usize,
+    placement: &mut [u64],
+) -> Planning
+    ensures { λ r. ⌜ PlanPromise records (tablesOf (now (types .entry)) (now (rows .entry)) (now (due .entry))) (countsOf «type_count» «row_count») (now (placement .entry)) blankRun r (now (placement .exit)) blankRun ⌝ }
+{
+    let mut run = blank();
+    records::plan_records(types, rows, due, type_count, row_count, placement, &mut run)
+}
+
+// The unbeaten pairs at a row, written to the lent areas; how many there are.
+pub fn list_held(
+    types: &[u32],
+    rows: &[u32],
+    due: &[i64],
+    type_count: usize,
+    row_count: usize,
+    row: usize,
+    list_loads: &mut [u32],
+    list_times: &mut [i64],
+) -> Listing
+    ensures { λ r. ⌜ ListPromise records (tablesOf (now (types .entry)) (now (rows .entry)) (now (due .entry))) (countsOf «type_count» «row_count») row (lentOf (now («list_loads» .entry)) (now («list_times» .entry))) blankRun r (lentOf (now («list_loads» .exit)) (now («list_times» .exit))) blankRun ⌝ }
+{
+    let mut run = blank();
+    records::listing::list_records(
+        types,
+        rows,
+        due,
+        type_count,
+        row_count,
+        row,
+        list_loads,
+        list_times,
+        &mut run,
+    )
+}

@@ -1,4 +1,0 @@
-pub mod Wiring
-pub mod Branching
-pub mod Types
-pub mod Sites

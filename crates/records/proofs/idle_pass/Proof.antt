@@ -1,0 +1,16 @@
+-- `records::idle_pass` meets its contract. Assumes nothing.
+use borrow.Author.Needs.{needs}
+use Rattle.records.proofs.idle_pass.Statement.{statement}
+use Rattle.records.proofs.idle_pass.Tie as tie
+
+unmarked-requires : tie.Need-unmarked-requires
+unmarked-requires c κs = search needs
+
+pass-at-requires : tie.Need-pass-at-requires
+pass-at-requires c κs = search needs
+
+returns : tie.Need-returns
+returns c = rw (← (c .before .unmarked .ensures)) (c .pass-at .ensures)
+
+pub idle-pass-spec : {M : Type 1} → statement M
+idle-pass-spec = tie.close (tie.spec unmarked-requires pass-at-requires returns)

@@ -1,0 +1,13 @@
+-- The tests of the rooms, by the lengths of the areas. Assumes nothing.
+use mathlib.Core.Bool.{Bool, _||_}
+use Prim.Native.Nat.{ℕ, _*_}
+use lib.Dec.{ltb}
+use Rattle.rules.specs.Quantities.{placementRoom, listRoom, workRoom}
+
+-- an area of the work is shorter than its room
+abbrev pub shortBy : (loads times words : ℕ) → Bool
+shortBy loads times words = ltb loads workRoom || (ltb times workRoom || ltb words (placementRoom * workRoom))
+
+-- an area of the list is shorter than its room
+abbrev pub shortListBy : (loads times : ℕ) → Bool
+shortListBy loads times = ltb loads listRoom || ltb times listRoom

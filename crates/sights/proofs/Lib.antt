@@ -1,0 +1,2 @@
+pub mod Local
+pub mod SightCalls

@@ -1,0 +1,4 @@
+pub mod Hanging
+pub mod Sights
+pub mod Below
+pub mod AtRow

@@ -1,0 +1,124 @@
+// The planner's recursion over the table, in the run: the list of what hangs from a row on, and the list at a row.
+use rules::Cand;
+use rules::Kind;
+ghost use mathlib.Core.Path.{_≡_};
+ghost use mathlib.Core.Bool.{cond};
+ghost use Prim.Native.Nat.{_<_};
+ghost use lib.ListN.{length, getD};
+ghost use Rattle.rules.specs.Quantities.{rowsRoom};
+ghost use Rattle.laws.specs.Tabled.{rowsFrom};
+ghost use Rattle.rows.specs.Links.{linksRoom, Standing, Earlier, Links};
+ghost use Rattle.jobs.specs.Jobs.{isPin, RowIn};
+ghost use Rattle.sights.specs.Hanging.{firstAt, nextOf, Hangs, Hung, Follows, Sees, Seen, Makes};
+
+fn first_of(links: &[u16], n: usize, c: usize, kind: Kind) -> usize
+    requires { ⌜ (c < rowsRoom) × (length (now links) ≡ linksRoom) ⌝ }
+    ensures { λ r. ⌜ r ≡ cond (isPin kind) n (getD (now (links .entry)) c 0) ⌝ }
+{
+    match kind {
+        Kind::Driver => rows::first_below(links, c),
+        Kind::Point => rows::first_below(links, c),
+        Kind::Sink(pin) => n,
+    }
+}
+
+// The first row below row c, or the number past the last row: a sink has none below it.
+pub fn first_at(rows: &[u32], due: &[i64], links: &[u16], n: usize, c: usize) -> usize
+    requires { ⌜ RowIn (now rows) (now due) (now links) c ⌝ }
+    ensures { λ r. ⌜ r ≡ firstAt (now (rows .entry)) (now (due .entry)) (now (links .entry)) n c ⌝ }
+{
+    let x = rows::row_at(rows, due, c);
+    let kind = x.kind;
+    first_of(links, n, c, kind)
+}
+
+// The list of row c behind its wire and of the rows after it under the same parent, made at a place: the later rows first, the row's own
+// behind them. Past the last row there is nothing.
+pub fn below(
+    run: &mut [Cand],
+    rows: &[u32],
+    due: &[i64],
+    types: &[u32],
+    links: &[u16],
+    count: usize,
+    n: usize,
+    c: usize,
+    at: usize,
+) -> usize
+    requires { ⌜ Hangs (now rows) (now due) (now types) (now links) count n c at (now run) ⌝ }
+    ensures { λ len. ⌜ Hung (now (rows .entry)) (now (due .entry)) (now (types .entry)) count n c at (now (run .entry)) (now (run .exit)) len ⌝ }
+{
+    let mut len = 0;
+    if c < n {
+        let later = beside(run, rows, due, types, links, count, n, c, at);
+        let own = seen(run, rows, due, types, links, count, n, c, at + later);
+        len = jobs::hang(run, rows, due, types, links, n, c, at, later, own);
+    }
+    len
+}
+
+// The list of the rows after row c under the same parent.
+pub fn beside(
+    run: &mut [Cand],
+    rows: &[u32],
+    due: &[i64],
+    types: &[u32],
+    links: &[u16],
+    count: usize,
+    n: usize,
+    c: usize,
+    at: usize,
+) -> usize
+    requires { ⌜ Follows (now rows) (now due) (now types) (now links) count n c at (now run) ⌝ }
+    ensures { λ len. ⌜ Hung (now (rows .entry)) (now (due .entry)) (now (types .entry)) count n (nextOf (now (links .entry)) c) at (now (run .entry)) (now (run .exit)) len ⌝ }
+{
+    let next = rows::next_beside(links, c);
+    below(run, rows, due, types, links, count, n, next, at)
+}
+
+// The list at row c: its pin, or what hangs under it, and its site.
+pub fn seen(
+    run: &mut [Cand],
+    rows: &[u32],
+    due: &[i64],
+    types: &[u32],
+    links: &[u16],
+    count: usize,
+    n: usize,
+    c: usize,
+    at: usize,
+) -> usize
+    requires { ⌜ Sees (now rows) (now due) (now types) (now links) count n c at (now run) ⌝ }
+    ensures { λ len. ⌜ Seen (now (rows .entry)) (now (due .entry)) (now (types .entry)) count n c at (now (run .entry)) (now (run .exit)) len ⌝ }
+{
+    let first = first_at(rows, due, links, n, c);
+    let under = below(run, rows, due, types, links, count, n, first, at);
+    jobs::site(run, rows, due, types, links, count, c, at, under)
+}
+
+// Where the rows below each row stand.
+pub fn links_of(rows: &[u32], due: &[i64], n: usize) -> [u16; 768]
+    requires { ⌜ Standing (now rows) (now due) n × Earlier (rowsFrom (now rows) (now due) 0 n) ⌝ }
+    ensures { λ r. ⌜ Links (rowsFrom (now (rows .entry)) (now (due .entry)) 0 n) r ⌝ }
+{
+    let mut links = [0u16; 768];
+    rows::link(rows, due, n, &mut links);
+    links
+}
+
+// The list at a row of a net that was accepted.
+pub fn make(
+    run: &mut [Cand],
+    rows: &[u32],
+    due: &[i64],
+    types: &[u32],
+    count: usize,
+    n: usize,
+    row: usize,
+) -> usize
+    requires { ⌜ Makes (now rows) (now due) (now types) count n row (now run) ⌝ }
+    ensures { λ len. ⌜ Seen (now (rows .entry)) (now (due .entry)) (now (types .entry)) count n row 0 (now (run .entry)) (now (run .exit)) len ⌝ }
+{
+    let links = links_of(rows, due, n);
+    seen(run, rows, due, types, &links, count, n, row, 0)
+}

@@ -1,0 +1,161 @@
+// The lists of a net's rows on both storages.
+use crate::figures;
+use crate::saying;
+use rules::Listing;
+
+const LIST_ROOM: usize = 257;
+
+fn same_loads(a: &[u32; 257], b: &[u32; 257]) -> bool {
+    let mut i = 0;
+    while i < LIST_ROOM {
+        if a[i] != b[i] {
+            return false;
+        }
+        i += 1;
+    }
+    true
+}
+
+fn same_times(a: &[i64; 257], b: &[i64; 257]) -> bool {
+    let mut i = 0;
+    while i < LIST_ROOM {
+        if a[i] != b[i] {
+            return false;
+        }
+        i += 1;
+    }
+    true
+}
+
+fn in_columns(
+    types: &[u32; 12],
+    rows: &[u32; 1536],
+    due: &[i64; 256],
+    t: usize,
+    n: usize,
+    row: usize,
+    list_loads: &mut [u32; 257],
+    list_times: &mut [i64; 257],
+) -> Listing {
+    let mut loads = [0u32; 768];
+    let mut times = [0i64; 768];
+    let mut words = [0u64; 3072];
+    plan::list_at(
+        types,
+        rows,
+        due,
+        t,
+        n,
+        row,
+        list_loads,
+        list_times,
+        &mut loads,
+        &mut times,
+        &mut words,
+    )
+}
+
+fn pairs(loads: &[u32; 257], times: &[i64; 257], length: usize) {
+    let mut i = 0;
+    while i < LIST_ROOM {
+        if i < length {
+            saying::load(loads[i]);
+            saying::time(times[i]);
+        }
+        i += 1;
+    }
+}
+
+fn line(told: bool, records: bool, answer: Listing, loads: &[u32; 257], times: &[i64; 257]) {
+    if !told {
+        return;
+    }
+    saying::storage(records);
+    match answer {
+        Listing::Refused(r) => saying::refused(r),
+        Listing::Listed { length } => {
+            saying::phrase(b" list", length as u64, b" pairs");
+            pairs(loads, times, length as usize);
+        }
+    }
+    saying::say(b"\n");
+}
+
+// Compared over the whole of the areas that were lent.
+fn same_list(
+    a: Listing,
+    b: Listing,
+    our_loads: &[u32; 257],
+    our_times: &[i64; 257],
+    their_loads: &[u32; 257],
+    their_times: &[i64; 257],
+) -> bool {
+    if figures::same(figures::of_list(a), figures::of_list(b)) {
+        return same_loads(our_loads, their_loads) && same_times(our_times, their_times);
+    }
+    false
+}
+
+// Whether both give the same list at a row; told where it is wanted.
+pub fn alike_at(
+    types: &[u32; 12],
+    rows: &[u32; 1536],
+    due: &[i64; 256],
+    t: usize,
+    n: usize,
+    row: usize,
+    told: bool,
+) -> bool {
+    let mut our_loads = [0u32; 257];
+    let mut our_times = [0i64; 257];
+    let mut their_loads = [0u32; 257];
+    let mut their_times = [0i64; 257];
+    let a = in_columns(types, rows, due, t, n, row, &mut our_loads, &mut our_times);
+    let b = held::list_held(
+        types,
+        rows,
+        due,
+        t,
+        n,
+        row,
+        &mut their_loads,
+        &mut their_times,
+    );
+    line(told, false, a, &our_loads, &our_times);
+    line(told, true, b, &their_loads, &their_times);
+    same_list(a, b, &our_loads, &our_times, &their_loads, &their_times)
+}
+
+fn first_unlike(
+    types: &[u32; 12],
+    rows: &[u32; 1536],
+    due: &[i64; 256],
+    t: usize,
+    n: usize,
+) -> usize {
+    let mut row = 0;
+    while row < n {
+        if !alike_at(types, rows, due, t, n, row, false) {
+            return row;
+        }
+        row += 1;
+    }
+    row
+}
+
+// The lists at every row.
+pub fn rows_alike(
+    types: &[u32; 12],
+    rows: &[u32; 1536],
+    due: &[i64; 256],
+    t: usize,
+    n: usize,
+) -> bool {
+    let row = first_unlike(types, rows, due, t, n);
+    if row < n {
+        saying::phrase(b"lists differ at row", row as u64, b"\n");
+        return false;
+    }
+    saying::phrase(b"lists alike at", n as u64, b" rows\n");
+    true
+}

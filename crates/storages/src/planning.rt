@@ -1,0 +1,69 @@
+// A net planned on both storages.
+use crate::figures;
+use crate::saying;
+use rules::Planning;
+
+fn same_words(a: &[u64; 4], b: &[u64; 4]) -> bool {
+    let mut i = 0;
+    while i < 4 {
+        if a[i] != b[i] {
+            return false;
+        }
+        i += 1;
+    }
+    true
+}
+
+fn plan_line(slack: i64, load: u32, placement: &[u64; 4]) {
+    saying::say(b" slack");
+    saying::time(slack);
+    saying::phrase(b" load", load as u64, b" marks");
+    saying::marks(placement[0]);
+    saying::marks(placement[1]);
+    saying::marks(placement[2]);
+    saying::marks(placement[3]);
+}
+
+fn line(records: bool, answer: Planning, placement: &[u64; 4]) {
+    saying::storage(records);
+    match answer {
+        Planning::Refused(r) => saying::refused(r),
+        Planning::Planned { slack, load } => plan_line(slack.0, load.0, placement),
+    }
+    saying::say(b"\n");
+}
+
+fn in_columns(
+    types: &[u32; 12],
+    rows: &[u32; 1536],
+    due: &[i64; 256],
+    t: usize,
+    n: usize,
+    placement: &mut [u64; 4],
+) -> Planning {
+    let mut loads = [0u32; 768];
+    let mut times = [0i64; 768];
+    let mut words = [0u64; 3072];
+    plan::plan_net(
+        types,
+        rows,
+        due,
+        t,
+        n,
+        placement,
+        &mut loads,
+        &mut times,
+        &mut words,
+    )
+}
+
+// Whether both give the same figures and the same placement.
+pub fn alike(types: &[u32; 12], rows: &[u32; 1536], due: &[i64; 256], t: usize, n: usize) -> bool {
+    let mut ours = [0u64; 4];
+    let mut theirs = [0u64; 4];
+    let a = in_columns(types, rows, due, t, n, &mut ours);
+    let b = held::plan_held(types, rows, due, t, n, &mut theirs);
+    line(false, a, &ours);
+    line(true, b, &theirs);
+    figures::same(figures::of_plan(a), figures::of_plan(b)) && same_words(&ours, &theirs)
+}

@@ -1,0 +1,39 @@
+-- What the functions on records by value make, as candidates. Assumes nothing.
+use mathlib.Core.Path.{_≡_, refl, sym, ap, _∙_}
+use mathlib.Core.List.{List}
+use Prim.Native.Nat.{ℕ, _+_, _*_, _≤_}
+use lib.IntN.{ℤ}
+use Rattle.rules.specs.declared.Ohm.{Ohm}
+use Rattle.rules.specs.declared.Femtofarad.{Femtofarad}
+use Rattle.rules.specs.declared.Femtosecond.{Femtosecond}
+use Rattle.rules.specs.Quantities.{_⊖_, mostLoad}
+use Rattle.rules.specs.Placements.{marks}
+use Rattle.rules.specs.Slack.{wireDelay}
+use Rattle.laws.specs.Integers.{minℤ}
+use Rattle.laws.specs.Joining.{join}
+use Rattle.laws.specs.Steps.{joined}
+use Rattle.laws.specs.Moves.{behind}
+use Rattle.columns.specs.Made.{Fit, wireOf}
+use Rattle.rules.specs.declared.Cand.{Cand}
+use Rattle.turns.specs.Records.{candOf}
+use Rattle.turns.specs.Turns.{Wires}
+
+-- a time by its number
+pub time-is : {t : Femtosecond} {z : ℤ} → t .0 ≡ z → t ≡ record { 0 = z }
+time-is {t} {z} e = ap (λ (n : ℤ). record { 0 = n }) e
+
+pub wired-load : (x : Cand) (r : Ohm) (c : Femtofarad) → Wires r c (candOf x) → c .0 + x .load .0 ≤ mostLoad
+unfolding behind
+wired-load x r c h = h .made .load
+
+pub wired-is : (x : Cand) (r : Ohm) (c : Femtofarad) (load : Femtofarad) (time : Femtosecond) → load .0 ≡ c .0 + x .load .0 → time .0 ≡ x .time .0 ⊖ (r .0 * load .0) → candOf (record { load = load; time = time; words = x .words }) ≡ behind (wireOf (r .0) (c .0)) (candOf x)
+unfolding behind wireDelay
+wired-is x r c load time e f = rw (f, e)
+
+pub joined-load : (x y : Cand) → Fit (joined join (candOf x) (candOf y)) → x .load .0 + y .load .0 ≤ mostLoad
+unfolding joined
+joined-load x y h = h .load
+
+pub joined-is : (x y : Cand) (load : Femtofarad) (time : Femtosecond) (words : List ℕ) → load .0 ≡ x .load .0 + y .load .0 → time .0 ≡ minℤ (x .time .0) (y .time .0) → marks words ≡ join (marks (x .words)) (marks (y .words)) → candOf (record { load = load; time = time; words = words }) ≡ joined join (candOf x) (candOf y)
+unfolding joined
+joined-is x y load time words e f g = rw (e, f, g)
