@@ -1,7 +1,7 @@
 #!/usr/bin/env python3
 """The nets of the program storages. `nets.py` writes crates/storages/stdin: the paper's examples, the nets of crates/vectors/stdin
 that are planned, the largest nets among them, and texts that are refused. `nets.py OUTPUT` holds what the program wrote to
-crates/vectors/stdout: both storages alike, and the figures, placements and driver's lists those of the vectors."""
+crates/vectors/stdout: both storages alike, and the figures, placements and lists those of the vectors."""
 import os
 import sys
 
@@ -42,7 +42,7 @@ def planned():
 
 
 def expected():
-    """what the vectors say of a case: slack and load, marks, the driver's list"""
+    """what the vectors say of a case: slack and load, marks, the lists by their rows"""
     says = {}
     for line in open(HERE + "vectors/stdout", encoding="latin-1"):
         name, rest = line.rstrip("\n").split(" ", 1)
@@ -54,8 +54,9 @@ def expected():
             about["plan"] = told.split(" kept")[0]
         elif asked == "marks":
             about["marks"] = told
-        elif asked == "list 0 257 257 768 768 3072":
-            about["list"] = told.split(" kept")[0].replace("length", "list", 1)
+        elif asked.startswith("list ") and asked.endswith(" 257 257 768 768 3072"):
+            row = asked.split(" ")[1]
+            about[row] = f"at {row}: " + told.split(" kept")[0].replace("length", "list", 1)
     return says
 
 
@@ -78,7 +79,8 @@ def check(output):
         assert b[-1] == "same", name
         if b[0].startswith("text "):
             b = b[1:]
-        assert [x.replace("records", "columns", 1) for x in (b[1], b[3])] == [b[0], b[2]], name
+        told = b[:-2]
+        assert [x.replace("records", "columns", 1) for x in told[1::2]] == told[::2], name
         of = says.get(name, {})
         plan = plan or of.get("plan")
         if plan:
@@ -87,10 +89,12 @@ def check(output):
         if "marks" in of and "plan" in of:
             assert b[0].endswith(f" marks {of['marks']}"), (name, b[0], of)
             marks += 1
-        if "list" in of:
-            assert b[2] == f"columns {of['list']}", (name, b[2], of)
-            lists += 1
-    print(f"{len(blocks)} nets alike; as the vectors have them: {figures} figures, {marks} placements, {lists} driver's lists")
+        for x in told[2::2]:
+            row = x.split(" ")[2].rstrip(":")
+            if row in of:
+                assert x == f"columns {of[row]}", (name, x, of)
+                lists += 1
+    print(f"{len(blocks)} nets alike; as the vectors have them: {figures} figures, {marks} placements, {lists} lists")
 
 
 if len(sys.argv) > 1:

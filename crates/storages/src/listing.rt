@@ -5,6 +5,9 @@ use rules::Listing;
 
 const LIST_ROOM: usize = 257;
 
+// A net of fewer rows has all its lists told.
+const TOLD_ROWS: usize = 9;
+
 fn same_loads(a: &[u32; 257], b: &[u32; 257]) -> bool {
     let mut i = 0;
     while i < LIST_ROOM {
@@ -66,11 +69,19 @@ fn pairs(loads: &[u32; 257], times: &[i64; 257], length: usize) {
     }
 }
 
-fn line(told: bool, records: bool, answer: Listing, loads: &[u32; 257], times: &[i64; 257]) {
+fn line(
+    told: bool,
+    records: bool,
+    row: usize,
+    answer: Listing,
+    loads: &[u32; 257],
+    times: &[i64; 257],
+) {
     if !told {
         return;
     }
     saying::storage(records);
+    saying::phrase(b" at", row as u64, b":");
     match answer {
         Listing::Refused(r) => saying::refused(r),
         Listing::Listed { length } => {
@@ -121,9 +132,17 @@ pub fn alike_at(
         &mut their_loads,
         &mut their_times,
     );
-    line(told, false, a, &our_loads, &our_times);
-    line(told, true, b, &their_loads, &their_times);
+    line(told, false, row, a, &our_loads, &our_times);
+    line(told, true, row, b, &their_loads, &their_times);
     same_list(a, b, &our_loads, &our_times, &their_loads, &their_times)
+}
+
+// The driver's list is told apart; those of the other rows where the net has few.
+fn is_told(row: usize, n: usize) -> bool {
+    if row == 0 {
+        return false;
+    }
+    n < TOLD_ROWS
 }
 
 fn first_unlike(
@@ -135,7 +154,8 @@ fn first_unlike(
 ) -> usize {
     let mut row = 0;
     while row < n {
-        if !alike_at(types, rows, due, t, n, row, false) {
+        let told = is_told(row, n);
+        if !alike_at(types, rows, due, t, n, row, told) {
             return row;
         }
         row += 1;

@@ -4,8 +4,9 @@
 //   text refused NUMBER PLACE                    where its text is refused; the storages are then asked for a net of no rows
 //   columns slack S load L marks W W W W         plan_net: the slack, the load and the placement's words, or its refusal
 //   records slack S load L marks W W W W         the same of the run of records
-//   columns list N pairs LOAD TIME ..            list_at at the driver: how many pairs, and the pairs, or its refusal
-//   records list N pairs LOAD TIME ..            the same of the run of records
+//   columns at R: list N pairs LOAD TIME ..      list_at at row R: how many pairs, and the pairs, or its refusal; at the driver, and
+//                                                at every row of a net of fewer than nine
+//   records at R: list N pairs LOAD TIME ..      the same of the run of records
 //   lists alike at N rows                        the lists at every row compared, place by place: or `lists differ at row R`
 //   same                                         or `differ`
 //

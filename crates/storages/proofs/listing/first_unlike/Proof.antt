@@ -13,6 +13,9 @@ abbrev μ-loop : tie.MeasureT-loop
 loop-holds : tie.Need-loop-holds Inv-loop μ-loop
 loop-holds c = search needs
 
+is-told-requires : tie.Need-is-told-requires Inv-loop μ-loop
+is-told-requires c κs = search needs
+
 alike-at-requires : tie.Need-alike-at-requires Inv-loop μ-loop
 alike-at-requires c κs = search needs
 
@@ -38,6 +41,7 @@ first-unlike-spec =
     Inv-loop
     μ-loop
     loop-holds
+    is-told-requires
     alike-at-requires
     returns
     add-row
