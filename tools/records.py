@@ -5,8 +5,8 @@ import sys
 
 sys.path.insert(0, os.path.dirname(__file__))
 from calls import Type
-from frame import LEND, MANY_USES, NET, ROWS, RUN, RUN_TYPES, SHOWN_USES, TYPED, Crate, Loop, branch, looped, nums, plain, shown, straight
-from walk import Num, Ref, parse
+from frame import LEND, MANY_USES, NET, ROWS, RUN, RUN_TYPES, SHOWN_USES, TYPED, Crate, branch, nums, plain, shown, straight
+from walk import parse
 
 TYPES = {
     "Cand": Type("Cand", "Cand", "T"),
@@ -57,21 +57,11 @@ PLANS = [
     HERE.callee("records::plan_if", NET + nums("count", "n") + [("c", "Checking")], "Pass", CHOSE_IF.format("zs"), PLAN_IF),
     HERE.callee("records::tell_if", [("placement", "mut u64"), ("c", "Checking"), ("p", "Pass")], "Planning", "ToldIf c p placement zs r", "FourIf placement c"),
 ]
-COPY = "(len ≤ length run) × (len ≤ length {})"
-LOADS, TIMES = "lls′ ≡ copied len (loadsOf run) lls", "lts′ ≡ copied len (timesOf run) lts"
-SHOWN, AREAS = [("run", "shr Cand")], [("lls", "mut u32"), ("lts", "mut i64")]
-PAIRS, COPIED = "(len ≤ length run) × ((len ≤ length lls) × (len ≤ length lts))", f"({LOADS}) × ({TIMES})"
+AREAS = [("lls", "mut u32"), ("lts", "mut i64")]
+COPY_PAIRS = HERE.callee("copying::copy_pairs", [("run", "shr Cand")] + AREAS + nums("len"), "unit", "", "…")
+HERE.packed("Rattle.copying.proofs.Calls", [COPY_PAIRS])
 CLEARED_IF, LIST_IF = "ClearedIf run {} c", "ListsIf rows due types count n row run lls lts c"
 LISTED_IF = "ListedIf rows due types count n row run run′ lls lls′ lts lts′ c r"
-READ_AT = HERE.callee("runs::passes::read_at", SHOWN + nums("i"), "Cand", "r ≡ getD run i zeros", "i < length run")
-HERE.packed("Rattle.runs.proofs.Calls", [READ_AT])
-COPIES = [
-    HERE.callee("records::copying::put_load", [("lls", "mut u32"), ("i", "usize"), ("c", "Cand")], "unit", "zs ≡ set lls i (c .load .0)", "i < length lls"),
-    HERE.callee("records::copying::put_time", [("lts", "mut i64"), ("i", "usize"), ("c", "Cand")], "unit", "zs ≡ set lts i (c .time .0)", "i < length lts"),
-    HERE.callee("records::copying::copy_loads", SHOWN + AREAS[:1] + nums("len"), "unit", LOADS, COPY.format("lls")),
-    HERE.callee("records::copying::copy_times", SHOWN + AREAS[1:] + nums("len"), "unit", TIMES, COPY.format("lts")),
-    HERE.callee("records::copying::copy_pairs", SHOWN + AREAS + nums("len"), "unit", COPIED, PAIRS),
-]
 LISTS = [
     HERE.callee("records::listing::judge_list", TYPED + ROWS + nums("count", "n", "row", "lls", "lts", "room"), "Checking", "ListVerdict types rows due count n row lls lts room r"),
     HERE.callee("records::listing::make_if", NET + nums("count", "n", "row") + [("c", "Checking")], "usize", SEEN_IF.format("zs"), MAKE_IF),
@@ -89,7 +79,6 @@ def packages():
     use = f"use {SPECS}Entries.{{Verdict, isAccepted, PlansIf, ChoseIf, FourIf, ToldIf}}\n"
     HERE.package("PlanCalls", "below the entries", TYPE_USES + ENUM_USES + LEND + use, PLANS)
     finally_ = "use denote.Slice.{finally}\n"
-    HERE.package("CopyCalls", "that copy a list", TYPE_USES + LEND + finally_ + f"use lib.ListN.{{set}}\nuse {SPECS}Listings.{{copied, loadsOf, timesOf}}\n", COPIES)
     use = f"use Rattle.rules.specs.Quantities.{{listRoom}}\nuse {SPECS}Listings.{{ListVerdict, MakesIf, SeenIf, ClearsIf, ClearedIf, ListsIf, ListedIf, clearOf, answerOf}}\n"
     HERE.package("ListCalls", "below the entries", TYPE_USES + ENUM_USES + LIST_USES + LEND + finally_ + use, LISTS)
 
@@ -139,29 +128,6 @@ def make_if(mir):
     plain(w, ENUM_USES + f"use {SPECS}Listings.{{MakesIf, SeenIf}}\nuse {SPECS}Entries.{{if-accepted, accepted-if, refused-if}}\n")
 
 
-def copies(mir):
-    for path, area, elem, of, more in (("copy_loads", "lls", "List ℕ", "loadsOf", "load-more"), ("copy_times", "lts", "List ℤ", "timesOf", "time-more")):
-        w = HERE.walk(mir, f"records::copying::{path}", TABLE[path.replace("_", "-")].params, "unit", COPY.format(area), LOADS if area == "lls" else TIMES)
-        looped(w, Loop(
-            1, state=f"ℕ × {elem}",
-            inv=[("fits", "s .0 < 2 ^ 64"), ("upto", "s .0 ≤ len"), ("asks", f"(len ≤ length (t-run .now)) × (len ≤ m-{area})"), ("long", f"length (s .1) ≡ m-{area}"), ("copy", f"s .1 ≡ copied (s .0) ({of} (t-run .now)) ys-{area}")],
-            live={1: Ref("run"), 2: Ref(area), 3: Num("len", "len-fits"), 4: Num("(s .0)", "inv .fits")},
-            lists={area: ("s .1", "inv .long")},
-            start=f"0, ys-{area}", begun="fits = lit< tt; upto = omega arith; asks = pre; long = refl; copy = refl",
-            measure=lambda s: f"len - {s} .0", test=("s .0", "len"),
-            more=f" let on : s .0 + 1 < 2 ^ 64 = omega arith in let in-run : s .0 < length (t-run .now) = omega (arith, inv .asks .0) in let in-area : s .0 < m-{area} = omega (arith, inv .asks .1) in",
-            last=" let last : s .0 ≡ len = omega (arith, nltb→le (s .0) len large, inv .upto) in",
-            facts=["in-run", "subst (λ (k : ℕ). s .0 < k) (sym (inv .long)) in-area", "on"],
-            next="s .0 + 1, zs₂", falls="omega arith",
-            kept=f"fits = on; upto = omega arith; asks = inv .asks; long = len₂; copy = {more} (s .0) (t-run .now) ys-{area} (s .1) zs₂ r₁ in-run in-area (inv .copy) (is₁ .1 .1) (is₂ .1 .1)",
-            end=f"exits tt (s .1) (inv .long) (inv .copy ∙ ap (λ (k : ℕ). copied k ({of} (t-run .now)) ys-{area}) last)"),
-            f"use {SPECS}Listings.{{copied, {of}}}\nuse {SPECS}Listed.{{{more}}}\n",
-            "so many are copied. The measure is how many are left.", "")
-    w = HERE.walk(mir, "records::copying::copy_pairs", TABLE["copy-pairs"].params, "unit", PAIRS, COPIED)
-    straight(w, ["(pre .0, pre .1 .0)", "(pre .0, pre .1 .1)"], "exits tt (x₁ .1) (x₂ .1) (got₁ .0) (got₂ .0) (got₁ .1 .1 .1, got₂ .1 .1 .1)")
-    plain(w, MANY_USES + f"use {SPECS}Listings.{{copied, loadsOf, timesOf}}\n")
-
-
 def clear_if(mir):
     w = HERE.walk(mir, "records::listing::clear_if", TABLE["clear-if"].params, "unit", "ClearsIf run c", CLEARED_IF.format("run′"))
     straight(w, ["clear-if-safe c (is₁ .1 .1) pre"], "exits tt zs₂ len₂ (clear-if-done c (is₁ .1 .1) pre (is₂ .1 .1))")
@@ -194,5 +160,5 @@ def list_records(mir):
 if __name__ == "__main__":
     mir = parse(open(sys.argv[1]).read())
     packages()
-    for write in (choose, clear, plan_in, plan_if, plan_records, make_if, copies, clear_if, list_if, list_records):
+    for write in (choose, clear, plan_in, plan_if, plan_records, make_if, clear_if, list_if, list_records):
         write(mir)

@@ -1,5 +1,5 @@
 #!/usr/bin/env python3
-"""Runs every case of the vectors program through the records: a copy of the repository in which its planning asks `plan_records` and
+"""Runs every case of the vectors program through the records: a copy of the repository in which the crate `asked` asks `plan_records` and
 `list_records`, with a run made from the same stamped areas, and `rt try vectors` there. The output that is stored is what the columns
 give, so where it is met both storages give the same answers, the same lists and placements, and leave their areas alike.
 
@@ -52,13 +52,12 @@ pub fn blank() -> Cand {
 ASKED = """    let none = work::blank();
     let mut run = [none; 775];
     work::pack(&mut run, &loads, &times, &words);
-    let lent = stamps::least(stamps::least({loads}, {times}), {words} / 4);
-    let answer = {call}, &mut run[..lent]);
+    let answer = {call}, &mut run[..stamps::least(stamps::least({loads}, {times}), {words} / 4)]);
     work::unpack(&run, &mut loads, &mut times, &mut words);
 """
 
-PLAN = "records::plan_records(types, rows, due, type_count, row_count, &mut placement[..a]"
-LIST = "records::listing::list_records(types, rows, due, type_count, row_count, row, &mut list_loads[..a], &mut list_times[..b]"
+PLAN = "records::plan_records(types, rows, due, type_count, row_count, placement"
+LIST = "records::listing::list_records(types, rows, due, type_count, row_count, n[0] as usize, list_loads, list_times"
 
 
 def between(text, start, end, new):
@@ -75,26 +74,24 @@ def edit(path, change):
 
 
 def work(text):
-    uses = "use rules::Cand;\nuse rules::Femtofarad;\nuse rules::Femtosecond;\nuse rules::Refusal;\n"
-    return text.replace("use rules::Refusal;\n", uses, 1) + HELPERS
+    uses = "use lending::stamps;\nuse rules::Cand;\nuse rules::Femtofarad;\nuse rules::Femtosecond;\n"
+    return text.replace("use lending::stamps;\n", uses, 1) + HELPERS
 
 
-def planning(text):
-    return between(text, "    let answer = plan::plan_net(", "    plan_line(answer", ASKED.format(call=PLAN, loads="b", times="c", words="d"))
-
-
-def listing(text):
-    return between(text, "    let answer = plan::list_at(", "    list_line(answer", ASKED.format(call=LIST, loads="c", times="d", words="e"))
+def asked(text, start, end, call, lengths):
+    """text whose `on_work` asks on a run made of the columns"""
+    loads, times, words = lengths
+    return between(text, start, end, ASKED.format(call=call, loads=loads, times=times, words=words))
 
 
 with tempfile.TemporaryDirectory() as top:
     copy = os.path.join(top, "copy")
     shutil.copytree(HERE, copy, ignore=shutil.ignore_patterns(".git", "build", "target"))
-    source = os.path.join(copy, "crates/vectors/src")
+    source = os.path.join(copy, "crates/asked/src")
     edit(os.path.join(source, "work.rt"), work)
-    edit(os.path.join(source, "planning.rt"), planning)
-    edit(os.path.join(source, "listing.rt"), listing)
-    edit(os.path.join(copy, "crates.txt"), lambda t: t.replace("\nvectors: ", "\nvectors: runs records ", 1))
+    edit(os.path.join(source, "planning.rt"), lambda t: asked(t, "    let answer = plan::plan_net(", "    Planned {", PLAN, "bcd"))
+    edit(os.path.join(source, "listing.rt"), lambda t: asked(t, "    let answer = plan::list_at(", "    Listed {", LIST, "cde"))
+    edit(os.path.join(copy, "crates.txt"), lambda t: t.replace("\nasked: ", "\nasked: runs records ", 1))
     run = subprocess.run(["rt", "try", "vectors"], cwd=copy, stdout=subprocess.PIPE, stderr=subprocess.STDOUT, text=True)
     # The interpreter's limit of steps is too low for the cases, on columns as well; the three compiled programs end.
     if run.stdout.count("ok: the native program") != 3:

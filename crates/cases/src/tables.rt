@@ -1,6 +1,6 @@
 // What requests set up, taken from the input: the bytes of the text and the words of the tables.
 use crate::numbers;
-use crate::stamps;
+use lending::stamps;
 use numbers::Number;
 use numbers::Time;
 

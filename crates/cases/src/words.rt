@@ -1,5 +1,5 @@
 // The words of the requests, and how many numbers each has.
-use crate::stamps;
+use lending::stamps;
 ghost use Prim.Native.Nat.{_<_};
 
 // The words of the requests, each as the number that its bytes make.
@@ -113,7 +113,7 @@ pub fn wanted(word: Word) -> usize {
 
 pub fn is_question(word: Word) -> bool {
     match word {
-        Word::Check | Word::Slack | Word::Plan => true,
+        Word::Read | Word::Check | Word::Slack | Word::Plan => true,
         Word::Marks | Word::Planned | Word::List => true,
         _ => false,
     }

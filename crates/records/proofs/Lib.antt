@@ -1,4 +1,3 @@
 pub mod EntryCalls
 pub mod PlanCalls
-pub mod CopyCalls
 pub mod ListCalls

@@ -5,10 +5,9 @@ use mathlib.Core.List.{List, [], _∷_, _++_, map}
 use mathlib.Core.Option.{some}
 use Prim.Native.Nat.{ℕ, zero, suc, _+_, _-_, _≤_, _<_}
 use native.Mathlib.Omega.{arith}
-use native.Mathlib.Numerals.{add-one}
 use lib.Dec.{ltb, leb}
-use lib.IntN.{ℤ, pos}
-use lib.ListN.{length, getD, set, take, replicate, length-map}
+use lib.IntN.{ℤ}
+use lib.ListN.{length, take, replicate, length-map}
 use borrow.Author.Tests.{ltb-false, leb-false, le-ltb, lt-leb}
 use Rattle.rules.specs.declared.Checking.{Checking}
 use Rattle.rules.specs.declared.Checking.the-variants.{Accepted, Refused}
@@ -37,45 +36,18 @@ use Rattle.chosen.specs.Promised.{entriesOf, tree, tree-row, made-few}
 use Rattle.rules.specs.declared.Cand.{Cand}
 use Rattle.turns.specs.declared.Pass.{Pass}
 use Rattle.turns.specs.Records.{cands}
+use Rattle.copying.specs.Copied.{copied, loadsOf, timesOf}
 use Rattle.runs.specs.Cands.{cands-length}
 use Rattle.runs.specs.Passes.{Safe, over, Swept}
 use Rattle.runs.specs.Puts.{puts-none}
 use Rattle.sights.specs.Hanging.{Seen}
 use Rattle.records.specs.Entries.{isAccepted, same-safe, same-swept}
 use Rattle.records.specs.Planning.{clear-safe, clear-done}
-use Rattle.records.specs.Listings.{copied, loadsOf, timesOf, clearOf, answerOf, RowVerdict, ListVerdict, MakesIf, SeenIf, ClearsIf, ClearedIf, Lists, ListsIf, ListedIf}
-
--- ---- one more copied
-copy-more : {A : Type 0} (i : ℕ) (from to : List A) (d : A) → i < length from → i < length to → set (copied i from to) i (getD from i d) ≡ copied (suc i) from to
-copy-more zero [] to d h k = absurd (omega arith)
-copy-more zero (x ∷ from) [] d h k = absurd (omega arith)
-copy-more zero (x ∷ from) (y ∷ to) d h k = refl
-copy-more (suc i) [] to d h k = absurd (omega arith)
-copy-more (suc i) (x ∷ from) [] d h k = absurd (omega arith)
-copy-more (suc i) (x ∷ from) (y ∷ to) d h k = ap (λ l. x ∷ l) (copy-more i from to d (omega arith) (omega arith))
-
-copied-more : {A : Type 0} (i : ℕ) (from to : List A) (d : A) → i < length from → i < length to → set (copied i from to) i (getD from i d) ≡ copied (i + 1) from to
-copied-more i from to d h k = rw add-one (copy-more i from to d h k)
+use Rattle.records.specs.Listings.{clearOf, answerOf, RowVerdict, ListVerdict, MakesIf, SeenIf, ClearsIf, ClearedIf, Lists, ListsIf, ListedIf}
 
 copied-written : {A : Type 0} (len : ℕ) (from to new : List A) → take len from ≡ new → length new ≡ len → copied len from to ≡ written new to
 unfolding written
 copied-written len from to new e f = rw (e, ← f)
-
-map-at : {A B : Type 0} (f : A → B) (l : List A) (i : ℕ) (a : A) (b : B) → i < length l → getD (map f l) i b ≡ f (getD l i a)
-map-at f [] i a b h = absurd (omega arith)
-map-at f (x ∷ l) zero a b h = refl
-map-at f (x ∷ l) (suc i) a b h = map-at f l i a b (omega arith)
-
--- a record's load and time, written where they belong
-pub load-more : (i : ℕ) (v : List Cand) (to l z : List ℕ) (c : Cand) → i < length v → i < length to → l ≡ copied i (loadsOf v) to → c ≡ getD v i zeros → z ≡ set l i (c .load .0) → z ≡ copied (i + 1) (loadsOf v) to
-load-more i v to l z c h k l-is c-is z-is =
-    let x : c .load .0 ≡ getD (loadsOf v) i 0 = ap (λ (y : Cand). y .load .0) c-is ∙ sym (map-at (λ (y : Cand). y .load .0) v i zeros 0 h) in
-    z-is ∙ rw (l-is, x) (copied-more i (loadsOf v) to 0 (rw length-map h) k)
-
-pub time-more : (i : ℕ) (v : List Cand) (to l z : List ℤ) (c : Cand) → i < length v → i < length to → l ≡ copied i (timesOf v) to → c ≡ getD v i zeros → z ≡ set l i (c .time .0) → z ≡ copied (i + 1) (timesOf v) to
-time-more i v to l z c h k l-is c-is z-is =
-    let x : c .time .0 ≡ getD (timesOf v) i (pos 0) = ap (λ (y : Cand). y .time .0) c-is ∙ sym (map-at (λ (y : Cand). y .time .0) v i zeros (pos 0) h) in
-    z-is ∙ rw (l-is, x) (copied-more i (timesOf v) to (pos 0) (rw length-map h) k)
 
 pair-loads : (len : ℕ) (v : List Cand) → take len (loadsOf v) ≡ map (λ (c : Pair). c .load) (map pairOf (take len (cands v)))
 unfolding pairOf

@@ -1,11 +1,11 @@
 -- What the functions below `list_records` give. Assumes nothing.
 use mathlib.Core.Path.{_≡_}
 use mathlib.Core.Bool.{cond}
-use mathlib.Core.List.{List, [], _++_, map}
+use mathlib.Core.List.{List}
 use Prim.Native.Nat.{ℕ, _≤_}
 use lib.Dec.{ltb, leb}
 use lib.IntN.{ℤ}
-use lib.ListN.{length, take, drop}
+use lib.ListN.{length}
 use Rattle.rules.specs.declared.Checking.{Checking}
 use Rattle.rules.specs.declared.Checking.the-variants.{Accepted, Refused}
 use Rattle.rules.specs.declared.Listing.{Listing}
@@ -17,18 +17,9 @@ use Rattle.rules.specs.Promises.{CheckPromise}
 use Rattle.laws.specs.Checked.{tablesOf, countsOf}
 use Rattle.rules.specs.declared.Cand.{Cand}
 use Rattle.turns.specs.declared.Pass.{Pass}
+use Rattle.copying.specs.Copied.{copied, loadsOf, timesOf}
 use Rattle.sights.specs.Hanging.{Makes, Seen}
 use Rattle.records.specs.Entries.{clearPass, idlePass, cleared, isAccepted}
-
--- a start of one list copied over another's
-abbrev pub copied : {A : Type 0} → ℕ → (from to : List A) → List A
-copied i from to = take i from ++ drop i to
-
-abbrev pub loadsOf : List Cand → List ℕ
-loadsOf v = map (λ c. c .load .0) v
-
-abbrev pub timesOf : List Cand → List ℤ
-timesOf v = map (λ c. c .time .0) v
 
 abbrev pub clearOf : Checking → Pass
 clearOf Accepted = clearPass

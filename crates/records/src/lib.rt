@@ -18,7 +18,6 @@ ghost use Rattle.rules.specs.Quantities.{placementRoom, workRoom};
 ghost use Rattle.runs.specs.Passes.{Swept};
 ghost use Rattle.records.specs.Entries.{driverPass, clearPass, idlePass, Chooses, cleared, Plans, Chose, PlansIf, ChoseIf, FourIf, Told, ToldIf, Verdict, isAccepted};
 
-pub mod copying;
 pub mod listing;
 
 // The first greatest behind the driver.

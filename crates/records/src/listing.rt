@@ -1,5 +1,4 @@
 // Listing over a lent run of records: `list_records` keeps the promise that `list_at` keeps on columns.
-use crate::copying;
 use rules::Cand;
 use rules::Checking;
 use rules::Listing;

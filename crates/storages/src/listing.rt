@@ -1,34 +1,12 @@
 // The lists of a net's rows on both storages.
-use crate::figures;
 use crate::saying;
+use compared::same;
 use rules::Listing;
 
 const LIST_ROOM: usize = 257;
 
 // A net of fewer rows has all its lists told.
 const TOLD_ROWS: usize = 9;
-
-fn same_loads(a: &[u32; 257], b: &[u32; 257]) -> bool {
-    let mut i = 0;
-    while i < LIST_ROOM {
-        if a[i] != b[i] {
-            return false;
-        }
-        i += 1;
-    }
-    true
-}
-
-fn same_times(a: &[i64; 257], b: &[i64; 257]) -> bool {
-    let mut i = 0;
-    while i < LIST_ROOM {
-        if a[i] != b[i] {
-            return false;
-        }
-        i += 1;
-    }
-    true
-}
 
 fn in_columns(
     types: &[u32; 12],
@@ -92,21 +70,6 @@ fn line(
     saying::say(b"\n");
 }
 
-// Compared over the whole of the areas that were lent.
-fn same_list(
-    a: Listing,
-    b: Listing,
-    our_loads: &[u32; 257],
-    our_times: &[i64; 257],
-    their_loads: &[u32; 257],
-    their_times: &[i64; 257],
-) -> bool {
-    if figures::same(figures::of_list(a), figures::of_list(b)) {
-        return same_loads(our_loads, their_loads) && same_times(our_times, their_times);
-    }
-    false
-}
-
 // Whether both give the same list at a row; told where it is wanted.
 pub fn alike_at(
     types: &[u32; 12],
@@ -134,7 +97,7 @@ pub fn alike_at(
     );
     line(told, false, row, a, &our_loads, &our_times);
     line(told, true, row, b, &their_loads, &their_times);
-    same_list(a, b, &our_loads, &our_times, &their_loads, &their_times)
+    same::same_list(a, b, &our_loads, &our_times, &their_loads, &their_times)
 }
 
 // The driver's list is told apart; those of the other rows where the net has few.

@@ -11,9 +11,7 @@
 //   same                                         or `differ`
 //
 // A text that fills the input's room ends the run with `bad input`.
-mod figures;
 mod listing;
-mod parting;
 mod planning;
 mod saying;
 
@@ -46,7 +44,7 @@ fn report(text: &[u8]) {
 fn run(input: &[u8]) {
     let mut from = 0;
     while from < input.len() {
-        let end = parting::text_end(input, from);
+        let end = compared::parting::text_end(input, from);
         report(&input[from..end]);
         from = end + 1;
     }

@@ -1,18 +1,8 @@
 // A net planned on both storages.
-use crate::figures;
 use crate::saying;
+use compared::figures;
+use compared::same;
 use rules::Planning;
-
-fn same_words(a: &[u64; 4], b: &[u64; 4]) -> bool {
-    let mut i = 0;
-    while i < 4 {
-        if a[i] != b[i] {
-            return false;
-        }
-        i += 1;
-    }
-    true
-}
 
 fn plan_line(slack: i64, load: u32, placement: &[u64; 4]) {
     saying::say(b" slack");
@@ -65,5 +55,5 @@ pub fn alike(types: &[u32; 12], rows: &[u32; 1536], due: &[i64; 256], t: usize, 
     let b = held::plan_held(types, rows, due, t, n, &mut theirs);
     line(false, a, &ours);
     line(true, b, &theirs);
-    figures::same(figures::of_plan(a), figures::of_plan(b)) && same_words(&ours, &theirs)
+    figures::same(figures::of_plan(a), figures::of_plan(b)) && same::same_words(&ours, &theirs)
 }

@@ -1,17 +1,23 @@
 // Each entry asked once, and its answer said.
 use crate::listing;
-use crate::planning;
 use crate::saying;
+use asked::planning::Planned;
 use cases::places;
 use cases::places::Place;
-use cases::stamps;
-use cases::sums;
 use cases::words::Word;
+use lending::stamps;
+use lending::sums;
 use rules::Checking;
+use rules::Planning;
 use rules::Reading;
 use rules::Slacking;
 
-const PLACEMENT: usize = 6;
+// The sum over the words in use, and whether the words behind them are kept.
+fn sum_line(types: &[u32], rows: &[u32], due: &[i64], t: usize, r: usize, d: usize) {
+    saying::say(b" sum");
+    saying::sum(sums::sum_of(types, rows, due, t, r, d));
+    saying::kept(stamps::tables_kept(types, rows, due, t, r, d));
+}
 
 // The answer's line of a text that was read, and the place with its counts.
 fn read_line(p: Place, answer: Reading, types: &[u32], rows: &[u32], due: &[i64]) -> Place {
@@ -22,48 +28,17 @@ fn read_line(p: Place, answer: Reading, types: &[u32], rows: &[u32], due: &[i64]
             places::counted(p, 0, 0)
         }
         Reading::Read { types: t, rows: r } => {
-            let dues = r as usize;
-            let type_words = 3 * t as usize;
-            let row_words = 6 * r as usize;
             saying::say(b" accepted");
             saying::number(t as u64);
             saying::number(r as u64);
-            saying::say(b" sum");
-            saying::sum(sums::sum_of(types, rows, due, type_words, row_words, dues));
-            saying::kept(stamps::tables_kept(types, rows, due, type_words, row_words, dues));
+            sum_line(types, rows, due, 3 * t as usize, 6 * r as usize, r as usize);
             places::counted(p, t as usize, r as usize)
         }
     }
 }
 
-fn stamp_tables(types: &mut [u32], rows: &mut [u32], due: &mut [i64]) {
-    stamps::set_words(types, true);
-    stamps::set_words(rows, true);
-    stamps::set_times(due, true);
-}
-
-fn read_lent(
-    p: Place,
-    text: &[u8],
-    types: &mut [u32],
-    rows: &mut [u32],
-    due: &mut [i64],
-) -> Reading {
-    let long = stamps::least(p.text, text.len());
-    let t = stamps::least(p.types, types.len());
-    let r = stamps::least(p.rows, rows.len());
-    let d = stamps::least(p.due, due.len());
-    net::read_net(
-        &text[..long],
-        &mut types[..t],
-        &mut rows[..r],
-        &mut due[..d],
-    )
-}
-
 pub fn read(p: Place, text: &[u8], types: &mut [u32], rows: &mut [u32], due: &mut [i64]) -> Place {
-    stamp_tables(types, rows, due);
-    let answer = read_lent(p, text, types, rows, due);
+    let answer = asked::tables::read(text, types, rows, due, p.text, p.types, p.rows, p.due);
     let q = read_line(p, answer, types, rows, due);
     saying::say(b"\n");
     q
@@ -83,18 +58,19 @@ fn slack_line(answer: Slacking) {
     }
 }
 
-// Behind the four words stand two more, which nobody may read.
-fn slack(
-    types: &[u32],
-    rows: &[u32],
-    due: &[i64],
-    type_count: usize,
-    row_count: usize,
-    n: &[u64; 6],
-) {
-    let long = stamps::least(n[0] as usize, PLACEMENT);
-    let placement = [n[1], n[2], n[3], n[4], 5, 6];
-    slack_line(slack::slack_of(types, rows, due, type_count, row_count, &placement[..long]));
+fn plan_line(planned: Planned) {
+    let answer = planned.answer;
+    let left = planned.left;
+    match answer {
+        Planning::Refused(r) => {
+            saying::refused(r);
+            saying::kept(left.kept);
+        }
+        Planning::Planned { slack, load } => {
+            saying::slack_and_load(slack, load);
+            saying::left(left);
+        }
+    }
 }
 
 fn marks(best: &[u64; 4]) {
@@ -118,8 +94,8 @@ fn of_parts(
     let r = p.row_count;
     match word {
         Word::Check => check_line(net::check_net(types, rows, due, t, r)),
-        Word::Slack => slack(types, rows, due, t, r, n),
-        Word::Plan => planning::plan(types, rows, due, t, r, n, best),
+        Word::Slack => slack_line(asked::tables::slack(types, rows, due, t, r, n)),
+        Word::Plan => plan_line(asked::planning::plan(types, rows, due, t, r, n, best)),
         Word::Marks => marks(best),
         Word::Planned => slack_line(slack::slack_of(types, rows, due, t, r, best)),
         Word::List => listing::list(types, rows, due, t, r, n),

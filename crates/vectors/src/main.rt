@@ -20,14 +20,12 @@
 // it was, `changed` that one does not; `cleared` that the room of the work area is all zero, `left` that it is not.
 mod asking;
 mod listing;
-mod planning;
 mod requests;
 mod saying;
-mod work;
 
 use cases::places::Step;
 
-const INPUT_ROOM: usize = 524_288;
+const INPUT_ROOM: usize = 262_144;
 
 // Every turn takes a line, so there are no more turns than bytes; the count makes that plain.
 fn run(
@@ -53,28 +51,30 @@ fn run(
     false
 }
 
-fn main() {
-    let mut input = [0u8; INPUT_ROOM];
-    let n = io::read_full(0, &mut input);
-    // A full buffer may hold a part of the cases only.
-    if n == INPUT_ROOM {
-        saying::say(b"bad case\n");
-        return;
+// The first n bytes are what was read. A full buffer may hold a part of the cases only.
+fn told(input: &[u8], n: usize) -> bool {
+    if input.len() <= n {
+        return false;
     }
     let mut text = [0u8; 40_960];
     let mut types = [0u32; 100];
     let mut rows = [0u32; 3000];
     let mut due = [0i64; 1000];
     let mut best = [0u64; 4];
-    let good = run(
+    run(
         &input[..n],
         &mut text,
         &mut types,
         &mut rows,
         &mut due,
         &mut best,
-    );
-    if !good {
+    )
+}
+
+fn main() {
+    let mut input = [0u8; INPUT_ROOM];
+    let n = io::read_full(0, &mut input);
+    if !told(&input, n) {
         saying::say(b"bad case\n");
     }
 }

@@ -1,9 +1,9 @@
 // Requests: the one at a place of the input, told whether it sets something up or asks.
 use crate::asking;
 use crate::saying;
-use cases::lines::Line;
 use cases::places::Place;
 use cases::places::Step;
+use cases::requests::Request;
 use cases::words::Word;
 
 fn echo(s: &[u8], from: usize, to: usize) {
@@ -27,6 +27,30 @@ fn say_question(s: &[u8], p: Place, from: usize) {
     saying::say(b":");
 }
 
+// A request done: a question asked, with its line before the answer, or something set up.
+fn given(
+    s: &[u8],
+    from: usize,
+    p: Place,
+    word: Word,
+    n: &[u64; 6],
+    text: &mut [u8],
+    types: &mut [u32],
+    rows: &mut [u32],
+    due: &mut [i64],
+    best: &mut [u64; 4],
+) -> Step {
+    if cases::words::is_question(word) {
+        say_question(s, p, from);
+        if let Word::Read = word {
+            return Step::Next(asking::read(p, text, types, rows, due));
+        }
+        asking::of_tables(p, word, n, types, rows, due, best);
+        return Step::Next(p);
+    }
+    cases::setting::set(s, p, word, n, text, types, rows, due)
+}
+
 pub fn next_request(
     s: &[u8],
     p: Place,
@@ -36,28 +60,9 @@ pub fn next_request(
     due: &mut [i64],
     best: &mut [u64; 4],
 ) -> Step {
-    let from = p.at;
-    let end = cases::lines::word_end(s, from);
-    let word = cases::words::word_of(cases::words::code(s, from, end));
-    if let Word::Case = word {
-        return cases::setting::named(s, p, end);
-    }
     let mut n = [0u64; 6];
-    let Line::Of(count, next) = cases::lines::numbers_at(s, end, &mut n) else {
-        return Step::Bad;
-    };
-    if count != cases::words::wanted(word) {
-        return Step::Bad;
+    match cases::requests::request_at(s, p, &mut n) {
+        Request::Over(step) => step,
+        Request::Of(word, q) => given(s, p.at, q, word, &n, text, types, rows, due, best),
     }
-    let q = cases::places::moved(p, next);
-    if let Word::Read = word {
-        say_question(s, q, from);
-        return Step::Next(asking::read(q, text, types, rows, due));
-    }
-    if cases::words::is_question(word) {
-        say_question(s, q, from);
-        asking::of_tables(q, word, &n, types, rows, due, best);
-        return Step::Next(q);
-    }
-    cases::setting::set(s, q, word, &n, text, types, rows, due)
 }

@@ -1,4 +1,5 @@
 // What is written: words, numbers and refusals.
+use asked::work::Left;
 use libc::STDOUT_FILENO;
 use rules::Femtofarad;
 use rules::Femtosecond;
@@ -23,7 +24,7 @@ pub fn time(t: i64) {
     if t < 0 {
         say(b"-");
     }
-    io::print_decimal(STDOUT_FILENO, cases::numbers::magnitude(t));
+    io::print_decimal(STDOUT_FILENO, lending::signs::magnitude(t));
 }
 
 // A word of a placement: a mark is one digit, the last that of its first site.
@@ -64,10 +65,16 @@ pub fn kept(good: bool) {
     }
 }
 
-pub fn cleared(good: bool) {
+fn cleared(good: bool) {
     if good {
         say(b" cleared");
     } else {
         say(b" left");
     }
+}
+
+// What a call left of its areas.
+pub fn left(l: Left) {
+    kept(l.kept);
+    cleared(l.cleared);
 }

@@ -1,10 +1,22 @@
 -- `cases::numbers::negative` is safe: a number of at most 2 ^ 63 less one, turned below zero, fits. Assumes nothing.
-use Prim.Native.Nat.{_-_}
+use Prim.Native.Nat.{ℕ, zero, suc, _-_, _≤_, _<_, _^_}
 use native.Mathlib.Omega.{arith}
+use lib.IntN.{pos, negsuc, _-ℤ_}
+use lib.Signed.{mag}
+use mir.Syntax.{w64}
+use mir.Val.{SFits, toZ}
+use mir.Facts.{toZ-pos}
 use borrow.Author.Needs.{needs}
-use Rattle.cases.proofs.Signs.{down}
 use Rattle.cases.proofs.numbers.negative.Statement.{statement}
 use Rattle.cases.proofs.numbers.negative.Tie as tie
+
+lower : (n : ℕ) → mag (negsuc 0 -ℤ pos n) ≤ n
+lower zero = omega arith
+lower (suc n) = omega arith
+
+-- a number turned below zero
+down : (n : ℕ) → n < 2 ^ 63 → SFits w64 (negsuc 0 -ℤ toZ w64 n)
+down n h = rw (toZ-pos w64 {n = n} h) (record { sfits = omega (arith, lower n) })
 
 returns : tie.Need-returns
 returns c = search needs

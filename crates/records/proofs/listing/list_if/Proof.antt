@@ -69,10 +69,10 @@ use Rattle.records.proofs.ListCalls.{MakeIf, to-make-if, make-if-vals, 
 use Rattle.records.proofs.listing.make_if.Symbol as make-if-def
 use Rattle.records.proofs.listing.make_if.Symbol.{name as #make-if}
 use Rattle.records.proofs.listing.make_if.Met as make-if-thm
-use Rattle.records.proofs.CopyCalls.{CopyPairs, to-copy-pairs, copy-pairs-vals, copy-pairs-says, goes-copy-pairs, gets-copy-pairs}
-use Rattle.records.proofs.copying.copy_pairs.Symbol as copy-pairs-def
-use Rattle.records.proofs.copying.copy_pairs.Symbol.{name as #copy-pairs}
-use Rattle.records.proofs.copying.copy_pairs.Met as copy-pairs-thm
+use Rattle.copying.proofs.Calls.{CopyPairs, to-copy-pairs, copy-pairs-vals, copy-pairs-says, goes-copy-pairs, gets-copy-pairs}
+use Rattle.copying.proofs.copy_pairs.Symbol as copy-pairs-def
+use Rattle.copying.proofs.copy_pairs.Symbol.{name as #copy-pairs}
+use Rattle.copying.proofs.copy_pairs.Met as copy-pairs-thm
 use Rattle.records.proofs.ListCalls.{ClearIf, to-clear-if, clear-if-vals, clear-if-says, goes-clear-if, gets-clear-if}
 use Rattle.records.proofs.listing.clear_if.Symbol as clear-if-def
 use Rattle.records.proofs.listing.clear_if.Symbol.{name as #clear-if}
@@ -159,5 +159,5 @@ list-if-spec 𝓤 H 𝓜 𝓖 𝓡 =
     (tables 𝓤 H 𝓜 𝓡 code.env .C) (tables 𝓤 H 𝓜 𝓡 code.env .Λ) #list-if code.function (code.unfolded 𝓤 H 𝓜 𝓡)
     (list-if-meets 𝓤 H (𝓖 .A) (givenOf 𝓤 H 𝓜 𝓖) (𝓜 .mem) (𝓡 .run) (tablesOf 𝓤 H 𝓜 (tables 𝓤 H 𝓜 𝓡 code.env))
     (cited 𝓤 H (MakeIf 𝓤 H (𝓖 .A) (𝓜 .mem) (𝓡 .run)) 𝓜 𝓡 code.env #make-if make-if-def.routine code.calls-records·listing·make-if (make-if-thm.met 𝓤 H 𝓜 𝓖 𝓡))
-    (cited 𝓤 H (CopyPairs 𝓤 H (𝓖 .A) (𝓜 .mem) (𝓡 .run)) 𝓜 𝓡 code.env #copy-pairs copy-pairs-def.routine code.calls-records·copying·copy-pairs (copy-pairs-thm.met 𝓤 H 𝓜 𝓖 𝓡))
+    (cited 𝓤 H (CopyPairs 𝓤 H (𝓖 .A) (𝓜 .mem) (𝓡 .run)) 𝓜 𝓡 code.env #copy-pairs copy-pairs-def.routine code.calls-copying·copy-pairs (copy-pairs-thm.met 𝓤 H 𝓜 𝓖 𝓡))
     (cited 𝓤 H (ClearIf 𝓤 H (𝓖 .A) (𝓜 .mem) (𝓡 .run)) 𝓜 𝓡 code.env #clear-if clear-if-def.routine code.calls-records·listing·clear-if (clear-if-thm.met 𝓤 H 𝓜 𝓖 𝓡)))
