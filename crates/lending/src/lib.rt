@@ -1,4 +1,3 @@
 // Areas that are lent to an entry: stamped before, looked at after, and summed.
-pub mod signs;
 pub mod stamps;
 pub mod sums;

@@ -1,5 +1,4 @@
 // The sum over the words in use of word times position, from 1: so that a word changed or moved shows.
-use crate::signs;
 
 // The sum of the words passed, and of all such sums: taken from the last word to the first, that is word times position.
 pub struct Sum {

@@ -1,8 +1,6 @@
 // The lines that the program writes: a word, then numbers, parted by one space and ended by a line feed.
 use libc::STDOUT_FILENO;
 use rules::Refusal;
-ghost use mathlib.Core.Path.{_≡_};
-ghost use lib.IntN.{natAbs};
 
 const ROWS_ROOM: usize = 256;
 
@@ -10,17 +8,6 @@ const SITES_ROOM: usize = 64;
 
 fn wide(x: u32) -> u64 {
     x as u64
-}
-
-// How far from zero, for every number: where it is negative, one more than its distance from -1.
-pub fn magnitude(z: i64) -> u64
-    ensures { λ r. ⌜ r ≡ natAbs z ⌝ }
-{
-    if z < 0 {
-        let past = -1 - z;
-        return past as u64 + 1;
-    }
-    z as u64
 }
 
 fn print_number(n: u64) {
@@ -33,7 +20,7 @@ fn print_signed(z: i64) {
     if z < 0 {
         io::write_all(STDOUT_FILENO, b"-");
     }
-    io::print_decimal(STDOUT_FILENO, magnitude(z));
+    io::print_decimal(STDOUT_FILENO, signs::magnitude(z));
 }
 
 fn end_line() {

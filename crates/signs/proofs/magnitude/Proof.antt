@@ -1,9 +1,9 @@
--- `planner::lines::magnitude` meets its contract: its laws are in `Magnitude`. Assumes nothing.
+-- `signs::magnitude` meets its contract: its laws are in `Past`. Assumes nothing.
 use native.Mathlib.Omega.{arith}
 use borrow.Author.Needs.{needs}
-use Rattle.planner.proofs.Magnitude.{past-fits, past-cast, past-more, past-is, positive-cast}
-use Rattle.planner.proofs.lines.magnitude.Statement.{statement}
-use Rattle.planner.proofs.lines.magnitude.Tie as tie
+use Rattle.signs.proofs.Past.{past-fits, past-cast, past-more, past-is, positive-cast}
+use Rattle.signs.proofs.magnitude.Statement.{statement}
+use Rattle.signs.proofs.magnitude.Tie as tie
 
 sub-past : tie.Need-sub-past
 sub-past c = past-fits (c .before .args .z) (c .before .fits .z) (c .if1 .taken)
