@@ -7,6 +7,7 @@ A callee is described by its parameters (name, kind), its result, and its two cl
 slice the last list is `zs`, the result `r`. Where several slices are `mut`, or one that is not the first parameter, each has a lifetime
 of its own, and the last list of `x` is `x′`.
 """
+from uses import used
 
 NUM = {"usize": ("usize", "w64"), "u32": ("u32", "w32"), "u64": ("u64", "w64")}
 SUB = str.maketrans("0123456789", "₀₁₂₃₄₅₆₇₈₉")
@@ -532,4 +533,4 @@ def package_file(head, uses, callees):
     for c in callees:
         t += f"use {c.mod} as {c.name}\n"
     t += "\nmodule _ {M : Type 1} (𝓤 : URA M) (H : Heap 𝓤) (A : Atoms 𝓤) (mem : Memory → SProp 𝓤) (run : Routine → Fun 𝓤) where\n"
-    return t + "\n".join(c.package() for c in callees)
+    return used(t + "\n".join(c.package() for c in callees))

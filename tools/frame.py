@@ -5,6 +5,7 @@ a function that neither loops nor calls itself and for functions that call each 
 import os
 
 from calls import Callee, Ctx, package_file, par
+from uses import used
 from walk import Num, Ref, Walk, flat
 
 RUN_TYPES = """use Rattle.rules.specs.declared.Cand.{Cand}
@@ -65,7 +66,7 @@ class Crate:
     def write(self, path, text, file="Proof.antt"):
         to = os.path.join(self.here, path.split("::", 1)[1].replace("::", "/"), file)
         os.makedirs(os.path.dirname(to), exist_ok=True)
-        open(to, "w").write(text)
+        open(to, "w").write(used(text))
 
 
 def begin_walk(w):

@@ -3,10 +3,8 @@ use crate::work;
 use lending::stamps;
 use rules::Listing;
 use work::Left;
-
-const WORK: usize = 800;
-
-const WORDS: usize = 3100;
+use work::WORDS;
+use work::WORK;
 
 // What it gave, and what it left.
 pub struct Listed {

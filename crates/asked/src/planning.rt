@@ -1,16 +1,13 @@
 // plan_net asked.
 use crate::work;
 use lending::stamps;
+use rooms::PLACEMENT_ROOM;
 use rules::Planning;
 use work::Left;
+use work::WORDS;
+use work::WORK;
 
 const PLACEMENT: usize = 6;
-
-const WORK: usize = 800;
-
-const WORDS: usize = 3100;
-
-const PLACEMENT_ROOM: usize = 4;
 
 // What it gave, and what it left.
 pub struct Planned {
@@ -60,7 +57,7 @@ fn on_work(
 }
 
 // The placement's words in use, kept for later questions.
-fn taken(best: &mut [u64; 4], placement: &[u64; 6]) {
+fn taken(best: &mut [u64; PLACEMENT_ROOM], placement: &[u64; 6]) {
     best[0] = placement[0];
     best[1] = placement[1];
     best[2] = placement[2];
@@ -68,7 +65,7 @@ fn taken(best: &mut [u64; 4], placement: &[u64; 6]) {
 }
 
 // With what was left of the placement.
-fn seen(planned: Planned, placement: &[u64; 6], best: &mut [u64; 4]) -> Planned {
+fn seen(planned: Planned, placement: &[u64; 6], best: &mut [u64; PLACEMENT_ROOM]) -> Planned {
     let answer = planned.answer;
     let mut from = 0;
     if !is_refused(answer) {
@@ -89,7 +86,7 @@ pub fn plan(
     type_count: usize,
     row_count: usize,
     n: &[u64; 6],
-    best: &mut [u64; 4],
+    best: &mut [u64; PLACEMENT_ROOM],
 ) -> Planned {
     let a = stamps::least(n[0] as usize, PLACEMENT);
     let mut placement = [0u64; PLACEMENT];

@@ -1,6 +1,11 @@
 // A work area: stamped before it is lent, and looked at after.
 use lending::stamps;
 
+// How many loads and times, and how many words, the program has to lend: more than their room.
+pub const WORK: usize = 800;
+
+pub const WORDS: usize = 3100;
+
 // What a call left: whether each word holds its stamp where the paper leaves it as it was, and whether the room of the work area is all
 // zero.
 pub struct Left {
@@ -15,7 +20,7 @@ pub fn stamp(loads: &mut [u32], times: &mut [i64], words: &mut [u64]) {
 }
 
 // A refusal leaves the whole area as it was, any other answer what is behind its room.
-pub fn seen(loads: &[u32; 800], times: &[i64; 800], words: &[u64; 3100], refused: bool) -> Left {
+pub fn seen(loads: &[u32; WORK], times: &[i64; WORK], words: &[u64; WORDS], refused: bool) -> Left {
     Left {
         kept: stamps::work_kept(loads, times, words, refused),
         cleared: stamps::work_cleared(loads, times, words),

@@ -1,9 +1,7 @@
 // Where the program stands in its input, and what a request moves there.
-const TYPES_LENT: usize = 12;
-
-const ROWS_LENT: usize = 1536;
-
-const DUE_LENT: usize = 256;
+use rooms::ROWS_AREA;
+use rooms::ROWS_ROOM;
+use rooms::TYPES_AREA;
 
 // Where the program stands: the next request, the case's name, the text's length, the lengths lent and the counts.
 pub struct Place {
@@ -29,9 +27,9 @@ pub fn start() -> Place {
         name: 0,
         name_end: 0,
         text: 0,
-        types: TYPES_LENT,
-        rows: ROWS_LENT,
-        due: DUE_LENT,
+        types: TYPES_AREA,
+        rows: ROWS_AREA,
+        due: ROWS_ROOM,
         type_count: 0,
         row_count: 0,
     }

@@ -8,16 +8,6 @@ use rules::Refusal;
 pub mod lines;
 pub mod ranges;
 
-// Words of a type and of a row in the tables.
-pub const TYPE_WORDS: usize = 3;
-
-pub const ROW_WORDS: usize = 6;
-
-// Room: types and rows.
-pub const TYPES_ROOM: usize = 4;
-
-pub const ROWS_ROOM: usize = 256;
-
 // A type of repeater.
 pub struct Repeater {
     pub input: Femtofarad,

@@ -1,15 +1,16 @@
 // The checks of one line after those that have passed, shared by texts and tables: in one line 1, 2, 3, 4.
 use super::Line;
 use super::Passed;
-use super::ROW_WORDS;
-use super::ROWS_ROOM;
 use super::Repeater;
-use super::TYPES_ROOM;
 use super::Wire;
 use super::ranges::MOST_OHMS;
 use super::ranges::sink_out;
 use super::ranges::type_out;
 use super::ranges::wire_out;
+use rooms::ROW_WORDS;
+use rooms::ROWS_ROOM;
+use rooms::SITES_ROOM;
+use rooms::TYPES_ROOM;
 use rules::Checking;
 use rules::Ohm;
 use rules::Refusal;
@@ -20,8 +21,6 @@ ghost use lib.Dec.{ltb, leb, eqb};
 ghost use lib.ListN.{length};
 ghost use Rattle.rules.specs.Quantities.{mostOhms};
 ghost use Rattle.checks.specs.Checks.{checking, firstOf, typeOut, manyRows, noParentIn, placeAt, checkOf, FewPassed};
-
-const SITES_ROOM: usize = 64;
 
 // The number of the line behind those that have passed.
 pub fn place_of(n: Passed) -> u32

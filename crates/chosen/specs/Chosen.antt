@@ -1,22 +1,20 @@
 -- The first greatest of the list at the driver, and the words of its placement. Assumes nothing.
 use mathlib.Core.Path.{_≡_, refl, sym, ap, _∙_}
-use mathlib.Core.Bool.{Bool, _||_}
 use mathlib.Core.List.{List, [], _∷_}
-use Prim.Native.Nat.{ℕ, zero, suc, _+_, _*_, _≤_, _<_}
+use Prim.Native.Nat.{ℕ, _+_, _*_, _≤_, _<_}
 use native.Mathlib.Omega.{arith}
-use lib.Dec.{ltb}
 use lib.IntN.{ℤ}
 use lib.ListN.{length, getD, set}
-use Rattle.rules.specs.Lists.{All, written}
-use Rattle.rules.specs.Quantities.{mostOhms, placementRoom, listRoom, rowsRoom, workRoom}
+use Rattle.rules.specs.Lists.{written}
+use Rattle.rules.specs.Quantities.{mostOhms, placementRoom, workRoom}
 use Rattle.rules.specs.Placements.{marks}
 use Rattle.rules.specs.Tables.{rowWords}
 use Rattle.rules.specs.Promises.{Columns, Lent}
 use Rattle.laws.specs.Steps.{best, value}
 use Rattle.laws.specs.Tabled.{rowAt}
-use Rattle.columns.specs.Parts.{part, part-cons}
-use Rattle.columns.specs.Run.{Candidate, blank, run, run-load, run-at, placeAt, words-read}
-use Rattle.columns.specs.Made.{Fit, Room, Stand, room-run}
+use Rattle.columns.specs.Parts.{part}
+use Rattle.columns.specs.Run.{Candidate, blank, run, run-load, run-at, words-read}
+use Rattle.columns.specs.Made.{Room, Stand}
 use Rattle.columns.specs.Choosing.{Chosen}
 
 -- the work area, and the areas of a list

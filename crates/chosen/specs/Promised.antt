@@ -1,53 +1,49 @@
 -- From what the planner made to what is promised: the placement chosen is planned, the list is the unbeaten pairs, and the work area is
 -- all zero. Assumes nothing.
-use mathlib.Core.Path.{_≡_, refl, sym, ap, ap₂, subst, _∙_}
-use mathlib.Core.Bool.{Bool, true, false, _||_}
+use mathlib.Core.Path.{_≡_, refl, sym, ap, subst, _∙_}
+use mathlib.Core.Bool.{false}
 use mathlib.Core.List.{List, [], _∷_, _++_, map, append-nil}
-use mathlib.Core.Option.{Option, none, some}
+use mathlib.Core.Option.{some}
 use Prim.Native.Nat.{ℕ, zero, suc, _+_, _*_, _-_, _≤_, _<_}
 use native.Mathlib.Omega.{arith}
 use native.Mathlib.Nat.{mul-le-mul}
-use lib.Dec.{ltb, leb}
+use lib.Dec.{ltb}
 use lib.IntN.{ℤ, pos}
-use lib.ListN.{length, getD, take, drop, replicate, length-replicate, length-map, drop-of-length-le}
+use lib.ListN.{length, getD, take, drop, replicate, length-map, drop-of-length-le}
 use lib.Seq.{length-take-le}
 use borrow.Author.Tests.{le-ltb, lt-leb, ltb-false}
-use Rattle.rules.specs.declared.Planning.{Planning}
 use Rattle.rules.specs.declared.Planning.the-variants.{Planned as IsPlanned}
-use Rattle.rules.specs.declared.Listing.{Listing}
 use Rattle.rules.specs.declared.Listing.the-variants.{Listed}
 use Rattle.rules.specs.declared.Femtofarad.{Femtofarad}
 use Rattle.rules.specs.declared.Femtosecond.{Femtosecond}
 use Rattle.rules.specs.declared.Row.{Row}
-use Rattle.rules.specs.Lists.{written, orElse, when}
-use Rattle.rules.specs.Quantities.{mostOhms, placementRoom, listRoom, workRoom}
-use Rattle.rules.specs.Entries.{Entry, Repeater, typesOf, rowsOf}
-use Rattle.rules.specs.Placements.{Placement, marks}
+use Rattle.rules.specs.Lists.{written}
+use Rattle.rules.specs.Quantities.{placementRoom, listRoom, workRoom}
+use Rattle.rules.specs.Entries.{Entry, Repeater, rowsOf}
+use Rattle.rules.specs.Placements.{Placement}
 use Rattle.rules.specs.Tables.{tableEntries}
-use Rattle.rules.specs.Net.{Tree, atRow, driverOhms}
-use Rattle.rules.specs.Pairs.{Pair, Planned, Unbeaten, Reached, sitesOn}
-use Rattle.rules.specs.Answers.{Timing, planFigures, listFigures, done}
-use Rattle.rules.specs.Promises.{Columns, columns, Lent, shortLent, Settled, shortPlacement, tablesRefusal, listRefusal, PlanOf, PlanPromise, ListOf, ListPromise}
-use Rattle.laws.specs.Candidates.{Cand, Front}
-use Rattle.laws.specs.Steps.{best, value}
+use Rattle.rules.specs.Net.{Tree, atRow}
+use Rattle.rules.specs.Pairs.{Pair}
+use Rattle.rules.specs.Answers.{Timing, planFigures, listFigures}
+use Rattle.rules.specs.Promises.{Columns, columns, Lent, shortLent, listRefusal, PlanOf, PlanPromise, ListOf, ListPromise}
+use Rattle.laws.specs.Candidates.{Front}
 use Rattle.laws.specs.Method.{Reaches, planned, Proper}
-use Rattle.laws.specs.Accepted.{Accepted}
 use Rattle.laws.specs.Rows.{row-in}
 use Rattle.laws.specs.Whole.{tree-at}
 use Rattle.laws.specs.Within.{within-tree}
 use Rattle.laws.specs.Listing.{pairOf, front-pairs, listed-length}
 use Rattle.laws.specs.Walk.{noRow, seenAt, atRow-seen}
-use Rattle.laws.specs.Tabled.{rowAt, rowsFrom, rows-length, repeatersFrom, repeaters-length}
+use Rattle.laws.specs.Tabled.{rowAt, rowsFrom, rows-length, repeatersFrom}
 use Rattle.laws.specs.Checked.{tablesOf, countsOf, Passed, passed-own}
 use Rattle.rows.specs.Links.{row-is}
-use Rattle.rows.specs.Given.{neither, held, areas, net-accepted, standing, driver-is}
+use Rattle.rows.specs.Given.{neither, held, net-accepted, standing, driver-is}
 use Rattle.columns.specs.Parts.{part, part-cons, part-length}
 use Rattle.columns.specs.Run.{Candidate, blank, run, stack, placeAt}
-use Rattle.columns.specs.Made.{Room, Stand, room-run}
-use Rattle.walks.specs.Shown.{Shows, shows-some, shows-fit}
+use Rattle.columns.specs.Made.{Room, Stand}
+use Rattle.walks.specs.Shown.{shows-some, shows-fit}
 use Rattle.walks.specs.Made.{Made}
 use Rattle.rooms.specs.Rooms.{shortBy, shortListBy}
-use Rattle.chosen.specs.Chosen.{columnsOf, lentOf, Ready, Choice}
+use Rattle.chosen.specs.Chosen.{columnsOf, Ready, Choice}
 
 abbrev pub entriesOf : (types rows : List ℕ) (due : List ℤ) (count n : ℕ) → List Entry
 entriesOf types rows due count n = tableEntries (tablesOf types rows due) (countsOf count n)

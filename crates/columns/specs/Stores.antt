@@ -12,7 +12,7 @@ use Rattle.laws.specs.Integers.{minℤ}
 use Rattle.laws.specs.Joining.{join}
 use Rattle.laws.specs.Steps.{joined}
 use Rattle.laws.specs.Moves.{behind}
-use Rattle.columns.specs.Run.{candidate, blank, run, run-at, run-put, placeAt, Puts}
+use Rattle.columns.specs.Run.{blank, run, run-at, run-put, placeAt, Puts}
 use Rattle.columns.specs.Made.{Fit, fit-near, wireOf}
 
 module _ (ls : List ℕ) (ts : List ℤ) (ws : List ℕ) (i : ℕ) (h : i < length ls) (k : i < length ts) where

@@ -1,12 +1,12 @@
 // Areas compared place by place, over the whole of what was lent.
 use crate::figures;
+use rooms::LIST_ROOM;
+use rooms::PLACEMENT_ROOM;
 use rules::Listing;
 
-const LIST_ROOM: usize = 257;
-
-pub fn same_words(a: &[u64; 4], b: &[u64; 4]) -> bool {
+pub fn same_words(a: &[u64; PLACEMENT_ROOM], b: &[u64; PLACEMENT_ROOM]) -> bool {
     let mut i = 0;
-    while i < 4 {
+    while i < PLACEMENT_ROOM {
         if a[i] != b[i] {
             return false;
         }
@@ -15,7 +15,7 @@ pub fn same_words(a: &[u64; 4], b: &[u64; 4]) -> bool {
     true
 }
 
-fn same_loads(a: &[u32; 257], b: &[u32; 257]) -> bool {
+fn same_loads(a: &[u32; LIST_ROOM], b: &[u32; LIST_ROOM]) -> bool {
     let mut i = 0;
     while i < LIST_ROOM {
         if a[i] != b[i] {
@@ -26,7 +26,7 @@ fn same_loads(a: &[u32; 257], b: &[u32; 257]) -> bool {
     true
 }
 
-fn same_times(a: &[i64; 257], b: &[i64; 257]) -> bool {
+fn same_times(a: &[i64; LIST_ROOM], b: &[i64; LIST_ROOM]) -> bool {
     let mut i = 0;
     while i < LIST_ROOM {
         if a[i] != b[i] {
@@ -40,10 +40,10 @@ fn same_times(a: &[i64; 257], b: &[i64; 257]) -> bool {
 pub fn same_list(
     a: Listing,
     b: Listing,
-    our_loads: &[u32; 257],
-    our_times: &[i64; 257],
-    their_loads: &[u32; 257],
-    their_times: &[i64; 257],
+    our_loads: &[u32; LIST_ROOM],
+    our_times: &[i64; LIST_ROOM],
+    their_loads: &[u32; LIST_ROOM],
+    their_times: &[i64; LIST_ROOM],
 ) -> bool {
     if figures::same(figures::of_list(a), figures::of_list(b)) {
         return same_loads(our_loads, their_loads) && same_times(our_times, their_times);

@@ -1,8 +1,8 @@
 // After the last line: the driver is there, and each row that is no sink has a row below it.
 use checks::Passed;
-use checks::ROW_WORDS;
-use checks::ROWS_ROOM;
 use checks::lines::place_of;
+use rooms::ROW_WORDS;
+use rooms::ROWS_ROOM;
 use rules::Refusal;
 ghost use mathlib.Core.Path.{_≡_};
 ghost use Prim.Native.Nat.{_+_, _*_, _≤_, _<_};

@@ -1,10 +1,10 @@
 // Areas of words: an entry stored behind those that have passed.
 use checks::Line;
 use checks::Passed;
-use checks::ROW_WORDS;
 use checks::Repeater;
-use checks::TYPE_WORDS;
 use checks::Wire;
+use rooms::ROW_WORDS;
+use rooms::TYPE_WORDS;
 use rules::Femtofarad;
 use rules::Femtosecond;
 use rules::Ohm;

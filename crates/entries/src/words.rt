@@ -1,14 +1,14 @@
 // The entries of a table by their words: a type by value, and the check of a row.
 use checks::Passed;
-use checks::ROW_WORDS;
 use checks::Repeater;
-use checks::TYPE_WORDS;
 use checks::Wire;
 use checks::lines::check_driver;
 use checks::lines::check_row;
 use checks::lines::place_of;
 use checks::ranges::sink_out;
 use checks::ranges::wire_out;
+use rooms::ROW_WORDS;
+use rooms::TYPE_WORDS;
 use rules::Checking;
 use rules::Femtofarad;
 use rules::Femtosecond;

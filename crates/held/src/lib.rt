@@ -1,7 +1,5 @@
 // The planner on a run of records of its own: each entry holds the run for its call, all zero, and lends it to the planner over records.
 use rules::Cand;
-use rules::Femtofarad;
-use rules::Femtosecond;
 use rules::Listing;
 use rules::Planning;
 ghost use mathlib.Core.Path.{_≡_};
@@ -14,7 +12,7 @@ ghost use Rattle.held.specs.Held.{blankRun};
 fn blank() -> [Cand; 768]
     ensures { λ r. ⌜ r ≡ blankRun ⌝ }
 {
-    let none = turns::values::unmarked(Femtofarad(0), Femtosecond(0));
+    let none = values::blank();
     [none; 768]
 }
 

@@ -1,7 +1,7 @@
 -- A row's own list behind its wire, and joined with the list that waits before it. Assumes nothing.
 use mathlib.Core.Path.{_≡_, refl, ap, _∙_}
 use mathlib.Core.Bool.{Bool, true, false, cond}
-use mathlib.Core.List.{List, []}
+use mathlib.Core.List.{List}
 use Prim.Native.Nat.{ℕ, _+_, _-_, _≤_, _<_}
 use native.Mathlib.Omega.{arith}
 use lib.IntN.{pos}
@@ -21,7 +21,7 @@ use Rattle.walks.specs.Made.{Wired, Hang}
 use Rattle.rules.specs.declared.Cand.{Cand}
 use Rattle.turns.specs.declared.Pass.{Pass}
 use Rattle.rules.specs.Promises.{zeros}
-use Rattle.turns.specs.Records.{cands}
+use Rattle.values.specs.Records.{cands}
 use Rattle.runs.specs.Cands.{cands-length}
 use Rattle.runs.specs.Passes.{Safe, Swept}
 use Rattle.runs.specs.Beyond.{swept-length}

@@ -10,6 +10,7 @@ use Rattle.rules.specs.declared.Kind.{Kind}
 use Rattle.rules.specs.declared.Kind.the-variants.{Driver, Point, Sink}
 use Rattle.rules.specs.declared.Row.{Row}
 use Rattle.rules.specs.Quantities.{rowsRoom}
+use Rattle.rules.specs.Refusals.{isSink}
 use Rattle.rules.specs.Tables.{rowWords}
 use Rattle.rules.specs.Placements.{marks}
 use Rattle.laws.specs.Joining.{set as mark}
@@ -21,7 +22,7 @@ use Rattle.turns.specs.declared.Step.{Step}
 use Rattle.turns.specs.declared.Step.the-variants.{Put, Move, FirstWire, FirstChoice, Insert, Branch}
 use Rattle.turns.specs.declared.Pass.{Pass}
 use Rattle.rules.specs.Promises.{zeros}
-use Rattle.turns.specs.Records.{candOf, plainOf}
+use Rattle.values.specs.Records.{candOf, plainOf}
 use Rattle.turns.specs.Turns.{passOf}
 use Rattle.runs.specs.Passes.{Safe, Swept}
 use Rattle.jobs.specs.declared.Job.{Job}
@@ -119,13 +120,8 @@ pinOf Driver = zeros
 pinOf Point = zeros
 pinOf (Sink pin) = plainOf (pin .load) (pin .due)
 
-abbrev pub isPin : Kind → Bool
-isPin Driver = false
-isPin Point = false
-isPin (Sink pin) = true
-
 abbrev pub siteJob : Row → (k count at own : ℕ) → Job
-siteJob x k count at own = record { step = 0; steps = cond (x .site) count 0 + cond (x .site) count 0 + 1; low = at; later = 0; own = own; made = 0; count = cond (x .site) count 0; site = k; sink = isPin (x .kind); pin = pinOf (x .kind); resistance = x .resistance; capacitance = x .capacitance; best = replicate 4 zeros }
+siteJob x k count at own = record { step = 0; steps = cond (x .site) count 0 + cond (x .site) count 0 + 1; low = at; later = 0; own = own; made = 0; count = cond (x .site) count 0; site = k; sink = isSink (x .kind); pin = pinOf (x .kind); resistance = x .resistance; capacitance = x .capacitance; best = replicate 4 zeros }
 
 abbrev pub hangJob : Row → (both : Bool) (at later own : ℕ) → Job
 hangJob x both at later own = record { step = 1; steps = cond both 4 2; low = at; later = later; own = own; made = 0; count = 0; site = 0; sink = false; pin = zeros; resistance = x .resistance; capacitance = x .capacitance; best = replicate 4 zeros }

@@ -16,6 +16,7 @@ use Rattle.rules.specs.Lists.{Pairwise}
 use Rattle.rules.specs.Entries.{Repeater}
 use Rattle.rules.specs.Placements.{marks}
 use Rattle.rules.specs.Slack.{typeOf, repeaterDelay}
+use Rattle.rules.specs.Refusals.{isSink}
 use Rattle.laws.specs.Lists.{all-self, any-imp}
 use Rattle.laws.specs.Candidates.{Below, thinIn, covers-refl, front-in}
 use Rattle.laws.specs.Joining.{set as mark}
@@ -32,14 +33,14 @@ use Rattle.walks.specs.Made.{Sited, Typed}
 use Rattle.rules.specs.declared.Cand.{Cand}
 use Rattle.turns.specs.declared.Pass.{Pass}
 use Rattle.rules.specs.Promises.{zeros}
-use Rattle.turns.specs.Records.{candOf, cands}
+use Rattle.values.specs.Records.{candOf, cands}
 use Rattle.runs.specs.Cands.{cands-length}
 use Rattle.runs.specs.Passes.{Safe, Swept}
 use Rattle.runs.specs.Beyond.{swept-length}
 use Rattle.runs.specs.Choices.{choices-safe, choices-swept}
 use Rattle.runs.specs.Inserts.{inserts-safe, inserts-swept}
 use Rattle.jobs.specs.declared.Job.{Job}
-use Rattle.jobs.specs.Jobs.{unset, pinPass, choicePass, insertPass, beginOf, Chosen, Ended, Inside, Ends, Able, Worked, isPin, pinOf, siteJob}
+use Rattle.jobs.specs.Jobs.{unset, pinPass, choicePass, insertPass, beginOf, Chosen, Ended, Inside, Ends, Able, Worked, pinOf, siteJob}
 use Rattle.jobs.specs.JobSteps.{kept-able, kept-worked}
 
 -- ---- the site's step by one type more
@@ -66,7 +67,7 @@ chosen-is : (ts : List ℕ) (t k : ℕ) (x : Candidate) (l : List Candidate) (e 
 unfolding chosenBy buffered repeaterAt
 chosen-is ts t k x l e f g = rw (g, ← f)
 
-module _ (ts : List ℕ) (count : ℕ) (T : Typed ts count) (x : Row) (k at own : ℕ) (w : List Cand) (long : workRoom ≤ length w) (n : ℕ) (v₁ : List Cand) (same₁ : length v₁ ≡ length w) (own-is : cond (isPin (x .kind)) 1 own ≡ n) (room₀ : at + 0 + own ≤ 768)
+module _ (ts : List ℕ) (count : ℕ) (T : Typed ts count) (x : Row) (k at own : ℕ) (w : List Cand) (long : workRoom ≤ length w) (n : ℕ) (v₁ : List Cand) (same₁ : length v₁ ≡ length w) (own-is : cond (isSink (x .kind)) 1 own ≡ n) (room₀ : at + 0 + own ≤ 768)
     (pin-safe : Safe (pinPass (siteJob x k count at own)) w) (pinned : (e : Pass) (v : List Cand) → Swept (pinPass (siteJob x k count at own)) w e v → v ≡ v₁) (S : Sited (cands v₁) (at + 0) n count (x .site) k) where
   abbrev cnt : ℕ
   cnt = cond (x .site) count 0
@@ -86,7 +87,7 @@ module _ (ts : List ℕ) (count : ℕ) (T : Typed ts count) (x : Row) (k at own 
       go false f h = absurd (omega arith)
 
   abbrev stage : (s len : ℕ) → List Cand → Job
-  stage s len best = record { step = s; steps = cnt + cnt + 1; low = at; later = 0; own = len; made = 0; count = cnt; site = k; sink = isPin (x .kind); pin = pinOf (x .kind); resistance = x .resistance; capacitance = x .capacitance; best = best }
+  stage s len best = record { step = s; steps = cnt + cnt + 1; low = at; later = 0; own = len; made = 0; count = cnt; site = k; sink = isSink (x .kind); pin = pinOf (x .kind); resistance = x .resistance; capacitance = x .capacitance; best = best }
 
   -- the driven list
   abbrev l : List Candidate
@@ -120,7 +121,7 @@ module _ (ts : List ℕ) (count : ℕ) (T : Typed ts count) (x : Row) (k at own 
   unfolding beginOf
   pin-begins = refl
 
-  pin-ends : (e : Pass) (r : Job) → Ended ts (stage 0 own (replicate 4 zeros)) e r → r ≡ stage (0 + 1) (cond (isPin (x .kind)) 1 own) (replicate 4 zeros)
+  pin-ends : (e : Pass) (r : Job) → Ended ts (stage 0 own (replicate 4 zeros)) e r → r ≡ stage (0 + 1) (cond (isSink (x .kind)) 1 own) (replicate 4 zeros)
   unfolding Ended
   pin-ends e r h = h
 

@@ -1,7 +1,7 @@
 // What each pass begins with.
 use crate::Job;
+use rooms::TYPE_WORDS;
 use rules::Cand;
-use rules::Femtofarad;
 use rules::Femtosecond;
 use rules::Ohm;
 use turns::Pass;
@@ -9,15 +9,7 @@ use turns::Step;
 ghost use mathlib.Core.Path.{_≡_};
 ghost use Prim.Native.Nat.{_+_, _≤_, _<_};
 ghost use lib.ListN.{length};
-ghost use Rattle.rules.specs.Promises.{zeros};
 ghost use Rattle.jobs.specs.Jobs.{Inside, pinPass, choicePass, insertPass, wirePass, branchPass, movePass, passAt, beginOf};
-
-// A record of zeros.
-pub fn blank() -> Cand
-    ensures { λ r. ⌜ r ≡ zeros ⌝ }
-{
-    turns::values::unmarked(Femtofarad(0), Femtosecond(0))
-}
 
 fn pass_at(step: Step, left: usize, from: usize, with: usize, to: usize, held: Cand) -> Pass
     ensures { λ p. ⌜ p ≡ passAt step left from with to held ⌝ }
@@ -43,9 +35,9 @@ fn choice_pass(types: &[u32], j: Job, t: usize) -> Pass
 {
     let at = j.low + j.later;
     let n = j.own;
-    let ohms = types[3 * t + 1];
-    let own = types[3 * t + 2];
-    let held = blank();
+    let ohms = types[TYPE_WORDS * t + 1];
+    let own = types[TYPE_WORDS * t + 2];
+    let held = values::blank();
     pass_at(Step::FirstChoice(own, Ohm(ohms)), n, at, at, at, held)
 }
 
@@ -68,7 +60,7 @@ fn wire_pass(j: Job) -> Pass
     let n = j.own;
     let r = j.resistance;
     let c = j.capacitance;
-    let held = blank();
+    let held = values::blank();
     pass_at(Step::FirstWire(r, c), n, at, at, at, held)
 }
 
@@ -80,7 +72,7 @@ fn branch_pass(j: Job) -> Pass
     let mid = low + j.later;
     let end = mid + j.own;
     let n = j.later + j.own;
-    let held = blank();
+    let held = values::blank();
     pass_at(Step::Branch(end, mid), n, mid, low, end, held)
 }
 
@@ -92,7 +84,7 @@ fn move_pass(j: Job) -> Pass
     let mid = low + j.later;
     let end = mid + j.own;
     let n = j.made;
-    let held = blank();
+    let held = values::blank();
     pass_at(Step::Move, n, end, low, low, held)
 }
 

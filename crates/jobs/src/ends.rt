@@ -1,5 +1,6 @@
 // What a pass has made of a job.
 use crate::Job;
+use rooms::TYPE_WORDS;
 use rules::Cand;
 use rules::Femtofarad;
 use turns::Pass;
@@ -36,11 +37,11 @@ fn chosen(types: &[u32], j: Job, e: Pass, t: usize) -> Job
     requires { ⌜ (j .step < 768) × ((j .site < 64) × ((t < 4) × (12 ≤ length (now types)))) ⌝ }
     ensures { λ r. ⌜ Chosen (now (types .entry)) j e t r ⌝ }
 {
-    let input = types[3 * t];
+    let input = types[TYPE_WORDS * t];
     let m = t as u64;
     let held = e.held;
     let worth = e.worth;
-    let c = turns::values::typed(held, Femtofarad(input), worth, j.site, m + 1);
+    let c = values::typed(held, Femtofarad(input), worth, j.site, m + 1);
     let mut best = j.best;
     best[t] = c;
     on_to(j, j.own, j.made, best)

@@ -1,34 +1,23 @@
 // The jobs of a row.
 use crate::Job;
-use crate::begins::blank;
 use rules::Cand;
 use rules::Kind;
 ghost use mathlib.Core.Path.{_≡_};
 ghost use mathlib.Core.Bool.{cond};
 ghost use Prim.Native.Nat.{_≤_};
-ghost use Rattle.jobs.specs.Jobs.{RowIn, pinOf, isPin, siteAt, hangAt};
+ghost use Rattle.jobs.specs.Jobs.{RowIn, pinOf, siteAt, hangAt};
 
 fn pin_of(kind: Kind) -> Cand
     ensures { λ r. ⌜ r ≡ pinOf kind ⌝ }
 {
     match kind {
-        Kind::Driver => blank(),
-        Kind::Point => blank(),
+        Kind::Driver => values::blank(),
+        Kind::Point => values::blank(),
         Kind::Sink(pin) => {
             let load = pin.load;
             let due = pin.due;
-            turns::values::unmarked(load, due)
+            values::unmarked(load, due)
         }
-    }
-}
-
-fn is_pin(kind: Kind) -> bool
-    ensures { λ r. ⌜ r ≡ isPin kind ⌝ }
-{
-    match kind {
-        Kind::Driver => false,
-        Kind::Point => false,
-        Kind::Sink(pin) => true,
     }
 }
 
@@ -62,8 +51,8 @@ pub fn site_job(
     let cap = x.capacitance;
     let types = sites(x.site, count);
     let pin = pin_of(kind);
-    let sink = is_pin(kind);
-    let none = blank();
+    let sink = kinds::is_sink(kind);
+    let none = values::blank();
     Job {
         step: 0,
         steps: types + types + 1,
@@ -99,7 +88,7 @@ pub fn hang_job(
     let next = rows::next_beside(links, c);
     let r = x.resistance;
     let cap = x.capacitance;
-    let none = blank();
+    let none = values::blank();
     let mut steps = 2;
     if next < n {
         steps = 4;

@@ -1,17 +1,15 @@
 -- Candidates: a load, a time, and the placement that reaches them. A front of a set of candidates is its unbeaten ones, loads and times
 -- strictly rising. Assumes nothing.
-use mathlib.Core.Path.{_≡_, refl, sym, ap, ap₂, _∙_}
-use mathlib.Core.List.{List, [], _∷_, _++_, map}
-use mathlib.Core.Logic.{_⊎_, inl, inr, ⊎-elim, ⊎-map}
-use Prim.Native.Nat.{ℕ, zero, suc, _+_, _*_, _≤_, _<_}
-use native.Mathlib.Omega.{arith}
+use mathlib.Core.Path.{_≡_, refl, ap₂}
+use mathlib.Core.List.{List, [], _∷_, map}
+use mathlib.Core.Logic.{_⊎_, inl, inr, ⊎-elim}
+use Prim.Native.Nat.{ℕ, _≤_, _<_}
 use native.Mathlib.Decide.{decLe, ℕ-discrete}
 use lib.IntN.{ℤ, ℤ-discrete}
 use lib.Signed.{_≤ℤ_, _<ℤ_}
-use Rattle.laws.specs.Integers.{times, ≤-or-<, ≤-refl, ≤-trans, ≤-antisym}
-use Rattle.rules.specs.Quantities.{_⊖_}
+use Rattle.laws.specs.Integers.{times, ≤-or-<}
 use Rattle.rules.specs.Lists.{All, Any, Pairwise, nil, cons, here, there}
-use Rattle.laws.specs.Lists.{Met, same, first, second, all-imp, any-imp, any-all, all-map, any-map, all-++, any-left, any-right, all-self, met, all-with, any-with}
+use Rattle.laws.specs.Lists.{Met, same, first, second, all-imp, any-imp, any-all, all-self, met, all-with, any-with}
 
 pub record Cand (W : Type 0) : Type 0 where
   pub load : ℕ

@@ -1,5 +1,5 @@
 -- What the answer of a check of tables says, by its promise alone: what was refused, or that nothing is. Assumes nothing.
-use mathlib.Core.Path.{_≡_, refl, sym, ap, _∙_}
+use mathlib.Core.Path.{_≡_, refl, ap, _∙_}
 use mathlib.Core.Bool.{Bool, true, false, _||_}
 use mathlib.Core.List.{List}
 use mathlib.Core.Option.{Option, none, some, Option·some-ne-none}
@@ -13,7 +13,7 @@ use Rattle.rules.specs.declared.Refusal.the-variants.{Form, Range, Room, Parent
 use Rattle.rules.specs.Lists.{orElse, when}
 use Rattle.rules.specs.Tables.{Tables, Counts, shortTables, tableEntries}
 use Rattle.rules.specs.Refusals.{refusalOf, numberOf}
-use Rattle.rules.specs.Answers.{Figures, checkFigures, refused, done}
+use Rattle.rules.specs.Answers.{checkFigures, refused, done}
 use Rattle.rules.specs.Promises.{Settled, tablesRefusal, CheckPromise}
 use Rattle.laws.specs.Figures.{check-figures}
 

@@ -12,7 +12,7 @@ use Rattle.rules.specs.declared.Kind.{Kind}
 use Rattle.rules.specs.declared.Kind.the-variants.{Driver, Point, Sink}
 use Rattle.rules.specs.declared.Row.{Row}
 use Rattle.rules.specs.Entries.{siteCount, sitesOf}
-use Rattle.rules.specs.Net.{Wire, Tree, sink, site, wireOf, sited, seen, wired, beside, hangs, at, atRow}
+use Rattle.rules.specs.Net.{Wire, Tree, sink, wireOf, sited, seen, wired, beside, hangs, at, atRow}
 use Rattle.rules.specs.Pairs.{On}
 use Rattle.laws.specs.Tests.{same, other, cond-yes, cond-no}
 use Rattle.laws.specs.Method.{Proper}

@@ -1,14 +1,14 @@
 -- The steps as the planner takes them, over whatever candidates carry: a wire, the repeaters of a site; and that they keep fronts.
 -- Assumes nothing.
-use mathlib.Core.Path.{_≡_, refl}
+use mathlib.Core.Path.{_≡_}
 use mathlib.Core.List.{List, [], _∷_, map}
-use mathlib.Core.Logic.{_⊎_, inl, inr, ⊎-elim}
-use Prim.Native.Nat.{ℕ, zero, suc, _+_, _*_, _≤_, _<_}
+use mathlib.Core.Logic.{_⊎_, inl, inr}
+use Prim.Native.Nat.{ℕ, zero, suc, _+_, _≤_, _<_}
 use native.Mathlib.Omega.{arith}
 use native.Mathlib.Nat.{mul-le-mul-left}
 use native.Mathlib.Decide.{ℕ-discrete}
 use Rattle.rules.specs.Quantities.{_⊖_}
-use Rattle.rules.specs.Lists.{All, Pairwise, nil, cons}
+use Rattle.rules.specs.Lists.{Pairwise, nil, cons}
 use Rattle.rules.specs.Entries.{Repeater}
 use Rattle.rules.specs.Net.{Wire}
 use Rattle.rules.specs.Slack.{typeOf, repeaterDelay, wireDelay}

@@ -1,18 +1,17 @@
 -- How great loads and times can be, from the ranges of what is given. Assumes nothing.
-use mathlib.Core.Path.{_≡_, refl, sym, ap, _∙_}
 use mathlib.Core.List.{List}
 use Prim.Native.Nat.{ℕ, zero, suc, _+_, _*_, _≤_, _<_}
 use native.Mathlib.Omega.{arith}
 use native.Mathlib.Nat.{mul-le-mul, le-trans}
-use lib.IntN.{ℤ, pos, negsuc}
+use lib.IntN.{ℤ}
 use lib.ListN.{length}
-use lib.Signed.{_≤ℤ_, _<ℤ_}
-use Rattle.rules.specs.Quantities.{_⊖_, mostOhms, mostFemtofarads, mostOwn, earliestDue, latestDue, mostLoad, leastSlack, mostSlack}
+use lib.Signed.{_≤ℤ_}
+use Rattle.rules.specs.Quantities.{_⊖_, mostOhms, earliestDue, latestDue, mostLoad, leastSlack}
 use Rattle.rules.specs.Entries.{Repeater}
 use Rattle.rules.specs.Placements.{Placement}
-use Rattle.rules.specs.Net.{Wire, Tree, sink, site, wire, both}
+use Rattle.rules.specs.Net.{Tree, sink, site, wire, both}
 use Rattle.rules.specs.Slack.{typeOf, seenLoad, repeaterDelay, wireDelay, load}
-use Rattle.laws.specs.Integers.{times, hi, lo, ⊖-read, ⊖-mono, ⊖-⊖, minℤ, min-lesser, min-greatest, ≤-refl, ≤-trans}
+use Rattle.laws.specs.Integers.{times, hi, lo, ⊖-read, ⊖-mono, min-lesser, min-greatest, ≤-refl, ≤-trans}
 use Rattle.laws.specs.Trees.{time}
 
 -- the net's numbers are in their ranges

@@ -1,19 +1,19 @@
 -- The steps of the method on fronts: through a wire, the best behind a delay, one type of repeater, a branch. Assumes nothing.
-use mathlib.Core.Path.{_≡_, refl, sym, ap, ap₂, _∙_}
-use mathlib.Core.List.{List, [], _∷_, _++_, map}
-use mathlib.Core.Logic.{_⊎_, inl, inr, ⊎-elim, ⊎-map}
-use Prim.Native.Nat.{ℕ, zero, suc, pred, _+_, _*_, _≤_, _<_}
+use mathlib.Core.Path.{_≡_, refl}
+use mathlib.Core.List.{List, [], _∷_, map}
+use mathlib.Core.Logic.{_⊎_, inl, inr}
+use Prim.Native.Nat.{ℕ, suc, pred, _+_, _≤_, _<_}
 use native.Mathlib.Omega.{arith}
 use native.Mathlib.Nat.{le-trans, le-refl}
 use lib.IntN.{ℤ}
 use lib.Signed.{_≤ℤ_, _<ℤ_}
 use lib.ListN.{length}
-use Rattle.laws.specs.Integers.{times, ⊖-mono, ⊖-strict, ≤-or-<, ≤-refl, ≤-trans, ≤-antisym, minℤ, Lesser, min-lesser, min-greatest, min-above, min-mono, Order, less, equal, more, order}
+use Rattle.laws.specs.Integers.{times, ⊖-mono, ≤-or-<, ≤-refl, ≤-trans, minℤ, Lesser, min-lesser, min-greatest, min-above, min-mono, Order, less, equal, more, order}
 use Rattle.rules.specs.Quantities.{_⊖_}
-use Rattle.rules.specs.Lists.{All, Any, Pairwise, nil, cons, here, there}
-use Rattle.laws.specs.Lists.{all-imp, any-imp, any-all, all-map, any-map, all-with, any-with, all-head, all-tail, all-++, any-left, any-right}
+use Rattle.rules.specs.Lists.{All, Pairwise, nil, cons, here, there}
+use Rattle.laws.specs.Lists.{all-imp, any-all, all-map, any-map, all-head, all-tail}
 use Rattle.laws.specs.Thinning.{Thinned, front-thinned}
-use Rattle.laws.specs.Candidates.{Cand, Covers, Below, Same, Covered, Front, thinIn, covers-refl, covers-trans, below-trans, front-in, front-wider, front-unique, pair}
+use Rattle.laws.specs.Candidates.{Cand, Covers, Below, Covered, Front, thinIn, covers-refl, front-in, front-wider}
 
 module _ {W : Type 0} where
   -- what f makes of R's candidates

@@ -1,24 +1,22 @@
 -- Tables that are not refused: their types and rows are those that the words state, each read by its place. Assumes nothing.
-use mathlib.Core.Path.{_≡_, refl, sym, ap, ap₂, _∙_}
+use mathlib.Core.Path.{_≡_, refl, ap, ap₂, _∙_}
 use mathlib.Core.Bool.{Bool, true, false, cond, _&&_}
 use mathlib.Core.List.{List, [], _∷_, _++_}
 use mathlib.Core.Option.{Option, none, some}
 use Prim.Native.Nat.{ℕ, zero, suc, _+_, _*_, _≤_, _<_, min}
 use native.Mathlib.Omega.{arith}
-use native.Mathlib.Numerals.{add-one}
 use lib.Dec.{eqb, ltb, eqb→eq, T}
 use lib.IntN.{ℤ, pos, negsuc}
-use lib.ListN.{length, getD, drop}
-use borrow.Author.Tests.{ltb-true, ltb-false}
+use lib.ListN.{length, getD}
+use borrow.Author.Tests.{ltb-false}
 use Rattle.rules.specs.declared.Kind.{Kind}
 use Rattle.rules.specs.declared.Kind.the-variants.{Driver, Point, Sink}
-use Rattle.rules.specs.declared.Refusal.{Refusal}
 use Rattle.rules.specs.declared.Row.{Row}
-use Rattle.rules.specs.Lists.{orElse, when}
+use Rattle.rules.specs.Lists.{orElse}
 use Rattle.rules.specs.Quantities.{typesRoom, rowsRoom}
 use Rattle.rules.specs.Entries.{Entry, type, driver, point, sink, malformed, beyond, Repeater, typesOf, rowsOf, rowOf}
 use Rattle.rules.specs.Tables.{Tables, Counts, typeWords, rowWords, typeEntry, rowBy, rowEntry, from, counted, tableEntries, isZero}
-use Rattle.rules.specs.Refusals.{refusalOf, firstRefusal, lineRefusal, misplaced, outOfRange, tooMany, orphan}
+use Rattle.rules.specs.Refusals.{refusalOf, firstRefusal, lineRefusal, misplaced, outOfRange, tooMany}
 
 -- 0 a driver, 1 a plain point, else a sink
 unfoldable pub kindOf : (kind pin : ℕ) (due : ℤ) → Kind

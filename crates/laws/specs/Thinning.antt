@@ -2,7 +2,7 @@
 use mathlib.Core.Path.{_≡_, refl}
 use mathlib.Core.Bool.{Bool, true, false, cond}
 use mathlib.Core.List.{List, [], _∷_, map}
-use Prim.Native.Nat.{ℕ, suc, _≤_, _<_}
+use Prim.Native.Nat.{suc, _≤_, _<_}
 use native.Mathlib.Omega.{arith}
 use lib.IntN.{ℤ}
 use lib.ListN.{length}
@@ -10,7 +10,7 @@ use lib.Signed.{_≤ℤ_, _<ℤ_, ltZ, ltZ-yes, ltZ-no}
 use Rattle.rules.specs.Lists.{All, Any, Pairwise, nil, cons, here, there}
 use Rattle.laws.specs.Integers.{times}
 use Rattle.laws.specs.Lists.{all-imp, any-imp, any-all, all-self}
-use Rattle.laws.specs.Candidates.{Cand, Covers, Below, Covered, Front, covers-refl, covers-trans, front-unique, pair}
+use Rattle.laws.specs.Candidates.{Cand, Below, Covered, Front, covers-refl, covers-trans, front-unique, pair}
 
 module _ {W : Type 0} where
   -- m is l thinned: members of l, rising, that cover all of it

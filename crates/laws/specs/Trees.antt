@@ -1,15 +1,15 @@
 -- The time of a placement at a tree, made from the sinks up, is the least that the walk from the driver down gives. Assumes nothing.
-use mathlib.Core.Path.{_≡_, refl, sym, _∙_}
-use mathlib.Core.List.{List, [], _∷_, _++_}
-use mathlib.Core.Logic.{_⊎_, inl, inr, ⊎-elim}
+use mathlib.Core.Path.{_≡_, refl, _∙_}
+use mathlib.Core.List.{List, _++_}
+use mathlib.Core.Logic.{_⊎_, ⊎-elim}
 use Prim.Native.Nat.{ℕ, _+_, _*_}
 use lib.IntN.{ℤ}
 use lib.Signed.{_≤ℤ_}
 use Rattle.rules.specs.Quantities.{_⊖_}
-use Rattle.rules.specs.Lists.{All, Any, Least, nil, cons, here}
+use Rattle.rules.specs.Lists.{Least, nil, cons, here}
 use Rattle.rules.specs.Entries.{Repeater}
 use Rattle.rules.specs.Placements.{Placement}
-use Rattle.rules.specs.Net.{Wire, Tree, sink, site, wire, both}
+use Rattle.rules.specs.Net.{Tree, sink, site, wire, both}
 use Rattle.rules.specs.Slack.{wireDelay, repeaterDelay, load, slacks, IsSlack}
 use Rattle.laws.specs.Integers.{⊖-swap, ⊖-zero, minℤ, Lesser, min-lesser, min-⊖, ≤-trans, ≤-refl, ≤-antisym}
 use Rattle.laws.specs.Lists.{all-imp, any-imp, any-all, all-++, any-left, any-right}

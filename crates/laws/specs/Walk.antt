@@ -1,6 +1,6 @@
 -- The rows as they are walked: what hangs under a row among the rows from a place on, the next row below it, and how many sites come
 -- before. Assumes nothing.
-use mathlib.Core.Path.{_≡_, refl, sym, ap, _∙_}
+use mathlib.Core.Path.{_≡_, refl, _∙_}
 use mathlib.Core.Bool.{cond}
 use mathlib.Core.List.{List, [], _∷_}
 use mathlib.Core.Option.{Option, none}

@@ -15,7 +15,7 @@ use Rattle.rules.specs.declared.Kind.the-variants.{Driver, Point, Sink}
 use Rattle.rules.specs.declared.Row.{Row}
 use Rattle.rules.specs.Entries.{Repeater, rowOf, siteCount, sitesOf}
 use Rattle.rules.specs.Refusals.{isSink, under}
-use Rattle.rules.specs.Net.{Wire, Tree, sink, site, wireOf, sited, seen, wired, beside, hangs, at, atRow, driverOhms}
+use Rattle.rules.specs.Net.{Wire, Tree, sink, wireOf, sited, seen, wired, beside, hangs, at, atRow, driverOhms}
 use Rattle.rules.specs.Pairs.{On}
 use Rattle.laws.specs.Method.{Proper}
 use Rattle.laws.specs.Taken.{driverRow}

@@ -19,7 +19,7 @@ use Rattle.rules.specs.Lists.{All, cons}
 use Rattle.rules.specs.Quantities.{_⊖_, mostLoad, leastSlack, mostSlack}
 use Rattle.rules.specs.Entries.{Repeater, siteCount, sitesOf}
 use Rattle.rules.specs.Placements.{Placement}
-use Rattle.rules.specs.Net.{Wire, Tree, sink, site, wireOf, sited, seen, wired, beside, hangs, atRow, driverOhms}
+use Rattle.rules.specs.Net.{Wire, Tree, sink, wireOf, sited, seen, wired, beside, hangs, atRow, driverOhms}
 use Rattle.rules.specs.Slack.{load, IsSlack}
 use Rattle.rules.specs.Pairs.{sitesOn, Pair, Legal, PairOf}
 use Rattle.laws.specs.Integers.{times, ⊖-read}

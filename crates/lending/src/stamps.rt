@@ -1,11 +1,9 @@
 // Stamps: what an area holds before it is lent, a different word at each place, none zero; and whether it still does.
+use rooms::WORDS_AREA;
+use rooms::WORK_ROOM;
 ghost use Prim.Native.Nat.{_≤_};
 
 const STAMPED: usize = 4000;
-
-const WORK_ROOM: usize = 768;
-
-const WORDS_ROOM: usize = 3072;
 
 // A number, cut to what there is.
 pub fn least(asked: usize, most: usize) -> usize
@@ -131,7 +129,7 @@ pub fn work_cleared(loads: &[u32], times: &[i64], words: &[u64]) -> bool {
     if !times_hold(times, 0, WORK_ROOM, false) {
         return false;
     }
-    marks_hold(words, 0, WORDS_ROOM, false)
+    marks_hold(words, 0, WORDS_AREA, false)
 }
 
 // Whether a work area holds its stamps: all of them, or those behind its room.
@@ -145,5 +143,5 @@ pub fn work_kept(loads: &[u32], times: &[i64], words: &[u64], all: bool) -> bool
     if !pairs_kept(loads, times, WORK_ROOM, WORK_ROOM) {
         return false;
     }
-    marks_kept(words, WORDS_ROOM)
+    marks_kept(words, WORDS_AREA)
 }

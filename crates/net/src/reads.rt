@@ -1,8 +1,6 @@
 // A text, line by line, into areas that hold what has passed.
 use super::lines::read_line;
 use checks::Passed;
-use checks::ROW_WORDS;
-use checks::TYPE_WORDS;
 use checks::lines::check_line;
 use checks::lines::place_of;
 use ending::Taking;
@@ -11,6 +9,8 @@ use entries::areas::store_line;
 use entries::copies::copy_times;
 use entries::copies::copy_words;
 use entries::counts::passed_with;
+use rooms::ROW_WORDS;
+use rooms::TYPE_WORDS;
 use rules::Checking;
 use rules::Reading;
 use rules::Refusal;

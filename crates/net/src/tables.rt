@@ -1,9 +1,6 @@
 // A net given as tables, entry by entry.
 use checks::Line;
 use checks::Passed;
-use checks::ROW_WORDS;
-use checks::ROWS_ROOM;
-use checks::TYPES_ROOM;
 use checks::lines::check_type;
 use checks::lines::place_of;
 use ending::Taking;
@@ -12,6 +9,9 @@ use entries::counts::passed_with;
 use entries::counts::with_row;
 use entries::words::check_row_at;
 use entries::words::type_at;
+use rooms::ROW_WORDS;
+use rooms::ROWS_ROOM;
+use rooms::TYPES_ROOM;
 use rules::Checking;
 use rules::Refusal;
 ghost use mathlib.Core.Path.{_≡_};

@@ -1,10 +1,9 @@
 -- What the planner's entries refuse: refusal 7 for their own areas, what the check of the tables refused, and 8. Assumes nothing.
-use mathlib.Core.Path.{_≡_, refl, sym, _∙_}
-use mathlib.Core.Bool.{Bool, true, false, _||_, or-true}
+use mathlib.Core.Path.{_≡_, refl}
+use mathlib.Core.Bool.{true, false, _||_, or-true}
 use mathlib.Core.List.{List}
-use mathlib.Core.Option.{Option, none, some}
-use Prim.Native.Nat.{ℕ, _≤_, _<_}
-use lib.Dec.{ltb, leb}
+use mathlib.Core.Option.{some}
+use Prim.Native.Nat.{ℕ, _≤_}
 use lib.IntN.{ℤ}
 use lib.ListN.{length}
 use borrow.Author.Tests.{le-leb}
@@ -12,10 +11,9 @@ use Rattle.rules.specs.declared.Refusal.{Refusal}
 use Rattle.rules.specs.declared.Refusal.the-variants.{Short, NoRow}
 use Rattle.rules.specs.declared.Planning.the-variants.{Refused}
 use Rattle.rules.specs.declared.Listing.the-variants.{Refused as NotListed}
-use Rattle.rules.specs.Lists.{orElse, when}
 use Rattle.rules.specs.Tables.{Tables, Counts}
 use Rattle.rules.specs.Answers.{planFigures, listFigures}
-use Rattle.rules.specs.Promises.{Columns, columns, Lent, shortLent, shortPlacement, tablesRefusal, listRefusal, PlanPromise, ListPromise}
+use Rattle.rules.specs.Promises.{columns, shortLent, shortPlacement, tablesRefusal, listRefusal, PlanPromise, ListPromise}
 use Rattle.laws.specs.Checked.{Passed, passed-own, short-own}
 use Rattle.rooms.specs.Rooms.{shortBy, shortListBy}
 use Rattle.chosen.specs.Chosen.{columnsOf, lentOf}

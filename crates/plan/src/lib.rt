@@ -5,7 +5,7 @@ use rules::Listing;
 use rules::Planning;
 use rules::Refusal;
 ghost use mathlib.Core.Path.{_≡_};
-ghost use Prim.Native.Nat.{_+_, _*_, _≤_, _<_};
+ghost use Prim.Native.Nat.{_*_, _≤_, _<_};
 ghost use lib.ListN.{length};
 ghost use Rattle.rules.specs.Quantities.{placementRoom, listRoom};
 ghost use Rattle.rules.specs.Promises.{CheckPromise, PlanPromise, ListPromise, columns};

@@ -1,10 +1,11 @@
 // The lines that the program writes: a word, then numbers, parted by one space and ended by a line feed.
 use libc::STDOUT_FILENO;
+use rooms::PLACEMENT_ROOM;
+use rooms::ROW_WORDS;
+use rooms::ROWS_AREA;
+use rooms::ROWS_ROOM;
+use rooms::SITES_ROOM;
 use rules::Refusal;
-
-const ROWS_ROOM: usize = 256;
-
-const SITES_ROOM: usize = 64;
 
 fn wide(x: u32) -> u64 {
     x as u64
@@ -57,7 +58,7 @@ fn print_buffer(row: u64, mark: u64) {
 }
 
 // The mark of a site. No net has more than 64, so the last line is never reached by a row.
-fn mark_of(placement: &[u64; 4], site: usize) -> u64 {
+fn mark_of(placement: &[u64; PLACEMENT_ROOM], site: usize) -> u64 {
     if site < SITES_ROOM {
         return marks::mark_of(placement, site);
     }
@@ -65,11 +66,11 @@ fn mark_of(placement: &[u64; 4], site: usize) -> u64 {
 }
 
 // A line for each repeater, rows rising. Rows past those of the net are all zero, and so have no site.
-pub fn print_buffers(rows: &[u32; 1536], placement: &[u64; 4]) {
+pub fn print_buffers(rows: &[u32; ROWS_AREA], placement: &[u64; PLACEMENT_ROOM]) {
     let mut row = 0;
     let mut site = 0;
     while row < ROWS_ROOM {
-        if rows[6 * row + 4] == 1 {
+        if rows[ROW_WORDS * row + 4] == 1 {
             print_buffer(row as u64, mark_of(placement, site));
             site += 1;
         }

@@ -1,6 +1,12 @@
 // The planning program: one net from standard input; its slack, the load on its driver and its repeaters to standard output, or why it
 // is refused.
 use libc::STDIN_FILENO;
+use rooms::PLACEMENT_ROOM;
+use rooms::ROWS_AREA;
+use rooms::ROWS_ROOM;
+use rooms::TYPES_AREA;
+use rooms::WORDS_AREA;
+use rooms::WORK_ROOM;
 use rules::Planning;
 use rules::Reading;
 
@@ -12,16 +18,16 @@ fn wide(x: u32) -> usize {
 
 // Of a net that was read: its plan.
 fn plan(
-    types: &[u32; 12],
-    rows: &[u32; 1536],
-    due: &[i64; 256],
+    types: &[u32; TYPES_AREA],
+    rows: &[u32; ROWS_AREA],
+    due: &[i64; ROWS_ROOM],
     type_count: usize,
     row_count: usize,
 ) {
-    let mut placement = [0u64; 4];
-    let mut loads = [0u32; 768];
-    let mut times = [0i64; 768];
-    let mut words = [0u64; 3072];
+    let mut placement = [0u64; PLACEMENT_ROOM];
+    let mut loads = [0u32; WORK_ROOM];
+    let mut times = [0i64; WORK_ROOM];
+    let mut words = [0u64; WORDS_AREA];
     let planned = plan::plan_net(
         types,
         rows,
@@ -44,9 +50,9 @@ fn plan(
 }
 
 fn report(text: &[u8]) {
-    let mut types = [0u32; 12];
-    let mut rows = [0u32; 1536];
-    let mut due = [0i64; 256];
+    let mut types = [0u32; TYPES_AREA];
+    let mut rows = [0u32; ROWS_AREA];
+    let mut due = [0i64; ROWS_ROOM];
     let read = net::read_net(text, &mut types, &mut rows, &mut due);
     match read {
         Reading::Refused(r) => lines::print_refusal(r),

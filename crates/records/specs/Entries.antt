@@ -2,7 +2,7 @@
 use mathlib.Core.Path.{_≡_}
 use mathlib.Core.Bool.{Bool, true, false, not, cond}
 use mathlib.Core.List.{List, [], _∷_, _++_}
-use Prim.Native.Nat.{ℕ, zero, _+_, _-_, _*_, _≤_}
+use Prim.Native.Nat.{ℕ, _+_, _-_, _*_, _≤_}
 use lib.Dec.{T, ltb}
 use lib.IntN.{ℤ, pos}
 use lib.ListN.{length, getD, drop, replicate}
@@ -24,7 +24,7 @@ use Rattle.columns.specs.Run.{blank}
 use Rattle.rules.specs.declared.Cand.{Cand}
 use Rattle.turns.specs.declared.Step.the-variants.{Put, FirstChoice}
 use Rattle.turns.specs.declared.Pass.{Pass}
-use Rattle.turns.specs.Records.{candOf, cands}
+use Rattle.values.specs.Records.{candOf, cands}
 use Rattle.turns.specs.Turns.{passOf}
 use Rattle.runs.specs.Passes.{Safe, Swept}
 use Rattle.sights.specs.Hanging.{Seen}

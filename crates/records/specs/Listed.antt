@@ -1,6 +1,6 @@
 -- From what was made at a row to the promise of `list_records`, refused or not. Assumes nothing.
 use mathlib.Core.Path.{_≡_, refl, sym, ap, _∙_}
-use mathlib.Core.Bool.{Bool, true, false, not, cond, _||_}
+use mathlib.Core.Bool.{Bool, true, false, cond, _||_}
 use mathlib.Core.List.{List, [], _∷_, _++_, map}
 use mathlib.Core.Option.{some}
 use Prim.Native.Nat.{ℕ, zero, suc, _+_, _-_, _≤_, _<_}
@@ -35,7 +35,7 @@ use Rattle.chosen.specs.Chosen.{lentOf}
 use Rattle.chosen.specs.Promised.{entriesOf, tree, tree-row, made-few}
 use Rattle.rules.specs.declared.Cand.{Cand}
 use Rattle.turns.specs.declared.Pass.{Pass}
-use Rattle.turns.specs.Records.{cands}
+use Rattle.values.specs.Records.{cands}
 use Rattle.copying.specs.Copied.{copied, loadsOf, timesOf}
 use Rattle.runs.specs.Cands.{cands-length}
 use Rattle.runs.specs.Passes.{Safe, over, Swept}

@@ -1,7 +1,7 @@
 -- From what was made at the driver to the promise of `plan_records`, refused or not. Assumes nothing.
 use mathlib.Core.Path.{_≡_, refl, sym, ap, _∙_}
-use mathlib.Core.Bool.{Bool, true, false, not, cond, _||_}
-use mathlib.Core.List.{List, [], _++_}
+use mathlib.Core.Bool.{Bool, true, false, cond, _||_}
+use mathlib.Core.List.{List, _++_}
 use mathlib.Core.Option.{some}
 use Prim.Native.Nat.{ℕ, _+_, _-_, _*_, _≤_, _<_}
 use native.Mathlib.Omega.{arith}
@@ -33,7 +33,7 @@ use Rattle.chosen.specs.Chosen.{Choice}
 use Rattle.chosen.specs.Promised.{entriesOf, timingOf, made-stand, plan-of}
 use Rattle.rules.specs.declared.Cand.{Cand}
 use Rattle.turns.specs.declared.Pass.{Pass}
-use Rattle.turns.specs.Records.{candOf, cands}
+use Rattle.values.specs.Records.{candOf, cands}
 use Rattle.runs.specs.Cands.{cands-length}
 use Rattle.runs.specs.Passes.{Safe, Swept}
 use Rattle.runs.specs.Choices.{choices-safe, choices-swept}

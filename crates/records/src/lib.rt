@@ -2,7 +2,6 @@
 use rooms::WORK_ROOM;
 use rules::Cand;
 use rules::Checking;
-use rules::Femtofarad;
 use rules::Femtosecond;
 use rules::Planning;
 use rules::Refusal;
@@ -27,7 +26,7 @@ fn driver_pass(rows: &[u32], due: &[i64], len: usize) -> Pass
 {
     let driver = rows::row_at(rows, due, 0);
     let r = driver.resistance;
-    let none = turns::values::unmarked(Femtofarad(0), Femtosecond(0));
+    let none = values::blank();
     turns::pass_at(Step::FirstChoice(0, r), len, 0, 0, 0, none, Femtosecond(0))
 }
 
@@ -35,7 +34,7 @@ fn driver_pass(rows: &[u32], due: &[i64], len: usize) -> Pass
 pub fn clear_pass() -> Pass
     ensures { λ p. ⌜ p ≡ clearPass ⌝ }
 {
-    let none = turns::values::unmarked(Femtofarad(0), Femtosecond(0));
+    let none = values::blank();
     turns::pass_at(Step::Put, WORK_ROOM, 0, 0, 0, none, Femtosecond(0))
 }
 
@@ -43,7 +42,7 @@ pub fn clear_pass() -> Pass
 pub fn idle_pass() -> Pass
     ensures { λ p. ⌜ p ≡ idlePass ⌝ }
 {
-    let none = turns::values::unmarked(Femtofarad(0), Femtosecond(0));
+    let none = values::blank();
     turns::pass_at(Step::Put, 0, 0, 0, 0, none, Femtosecond(0))
 }
 

@@ -2,7 +2,12 @@
 use mathlib.Core.Bool.{Bool, _||_}
 use Prim.Native.Nat.{ℕ, _*_}
 use lib.Dec.{ltb}
-use Rattle.rules.specs.Quantities.{placementRoom, listRoom, workRoom}
+use Rattle.rules.specs.Quantities.{typesRoom, rowsRoom, placementRoom, listRoom, workRoom}
+use Rattle.rules.specs.Tables.{typeWords, rowWords}
+
+-- an area of the tables is shorter than its room
+abbrev pub shortTablesBy : (types rows due : ℕ) → Bool
+shortTablesBy types rows due = ltb types (typeWords * typesRoom) || (ltb rows (rowWords * rowsRoom) || ltb due rowsRoom)
 
 -- an area of the work is shorter than its room
 abbrev pub shortBy : (loads times words : ℕ) → Bool

@@ -1,14 +1,50 @@
-// The rooms that lent areas must have, and whether one is shorter than its room.
+// The rooms of lent areas, the words of what stands in them, and whether an area is shorter than its room.
 ghost use mathlib.Core.Path.{_≡_};
 ghost use lib.Dec.{ltb};
 ghost use Rattle.rules.specs.Quantities.{placementRoom, listRoom, workRoom};
-ghost use Rattle.rooms.specs.Rooms.{shortBy, shortListBy};
+ghost use Rattle.rooms.specs.Rooms.{shortTablesBy, shortBy, shortListBy};
 
-const PLACEMENT_ROOM: usize = 4;
+// Bytes of a text.
+pub const TEXT_ROOM: usize = 32_768;
 
-const LIST_ROOM: usize = 257;
+// Types, rows and sites of a net.
+pub const TYPES_ROOM: usize = 4;
+
+pub const ROWS_ROOM: usize = 256;
+
+pub const SITES_ROOM: usize = 64;
+
+// Words of a placement, pairs of a list, candidates of work.
+pub const PLACEMENT_ROOM: usize = 4;
+
+pub const LIST_ROOM: usize = 257;
 
 pub const WORK_ROOM: usize = 768;
+
+// Words of a type and of a row in the tables.
+pub const TYPE_WORDS: usize = 3;
+
+pub const ROW_WORDS: usize = 6;
+
+// Words of all types, of all rows, and of the placements of all candidates.
+pub const TYPES_AREA: usize = TYPE_WORDS * TYPES_ROOM;
+
+pub const ROWS_AREA: usize = ROW_WORDS * ROWS_ROOM;
+
+pub const WORDS_AREA: usize = PLACEMENT_ROOM * WORK_ROOM;
+
+// Whether an area of the tables is shorter than its room.
+pub fn short_tables(types: usize, rows: usize, due: usize) -> bool
+    ensures { λ r. ⌜ r ≡ shortTablesBy types rows due ⌝ }
+{
+    if types < TYPES_AREA {
+        return true;
+    }
+    if rows < ROWS_AREA {
+        return true;
+    }
+    due < ROWS_ROOM
+}
 
 // Whether a placement has fewer words than its four.
 pub fn short_placement(words: usize) -> bool
@@ -34,7 +70,7 @@ pub fn short_work(loads: usize, times: usize, words: usize) -> bool
     if times < WORK_ROOM {
         return true;
     }
-    words < 4 * WORK_ROOM
+    words < WORDS_AREA
 }
 
 // Whether the loads or the times of a list have less than their room.

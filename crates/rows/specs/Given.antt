@@ -2,8 +2,7 @@
 use mathlib.Core.Path.{_≡_, refl, sym, ap, _∙_}
 use mathlib.Core.Bool.{Bool, true, false, _||_, true≢false}
 use mathlib.Core.List.{List, [], _∷_}
-use mathlib.Core.Option.{none}
-use Prim.Native.Nat.{ℕ, _+_, _*_, _≤_, _<_}
+use Prim.Native.Nat.{ℕ, _*_, _≤_}
 use native.Mathlib.Omega.{arith}
 use lib.Dec.{ltb}
 use lib.IntN.{ℤ}
@@ -11,7 +10,6 @@ use lib.ListN.{length, getD}
 use borrow.Author.Tests.{ltb-false}
 use Rattle.rules.specs.declared.Row.{Row}
 use Rattle.rules.specs.Quantities.{typesRoom, rowsRoom}
-use Rattle.rules.specs.Entries.{typesOf, rowsOf}
 use Rattle.rules.specs.Tables.{typeWords, rowWords, shortTables, tableEntries}
 use Rattle.rules.specs.Net.{driverOhms}
 use Rattle.laws.specs.Accepted.{Accepted, accepted}

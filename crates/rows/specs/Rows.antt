@@ -1,10 +1,7 @@
 -- What the words of one type and one row are to the functions that read them. Assumes nothing.
 use mathlib.Core.Path.{_≡_}
-use mathlib.Core.List.{List}
-use Prim.Native.Nat.{ℕ}
-use lib.IntN.{ℤ, pos}
+use lib.IntN.{pos}
 use Rattle.rules.specs.Entries.{Repeater}
-use Rattle.laws.specs.Tabled.{repeaterAt}
 use Rattle.rows.specs.declared.Buffer.{Buffer}
 
 -- the type with its three quantities apart

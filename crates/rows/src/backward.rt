@@ -1,8 +1,10 @@
 // Where the rows below each row stand, in the order in which the planner takes them: later ones before earlier ones, but for sinks.
+use crate::NEXT_AT;
+use crate::SITES_AT;
 use crate::first_below;
-use crate::next_site;
 use crate::place;
 use crate::row_at;
+use rooms::ROW_WORDS;
 ghost use mathlib.Core.Path.{_≡_};
 ghost use Prim.Native.Nat.{_+_, _*_, _≤_, _<_};
 ghost use lib.ListN.{length, getD, set};
@@ -12,13 +14,7 @@ ghost use Rattle.laws.specs.Tabled.{rowsFrom};
 ghost use Rattle.rows.specs.Links.{Earlier, Standing, linksRoom, nextAt, sitesAt};
 ghost use Rattle.rows.specs.Backward.{Backward, Slot};
 
-const ROW_WORDS: usize = 6;
-
 const SINK: u32 = 2;
-
-const NEXT_AT: usize = 256;
-
-const SITES_AT: usize = 512;
 
 // Where row i is put into the links: as the first of the rows below p, or, if it is a sink and the first is none, right behind the first.
 // So a walk that goes down along first rows comes to a sink only where all rows below the same parent are sinks.
@@ -63,13 +59,13 @@ pub fn link_back(rows: &[u32], due: &[i64], n: usize, links: &mut [u16])
     let driver = row_at(rows, due, 0);
     links[0] = place(n);
     links[SITES_AT] = 0;
-    let mut k = next_site(driver.site, 0);
+    let mut k = kinds::next_site(driver.site, 0);
     let mut i = 1;
     while i < n {
         let x = row_at(rows, due, i);
         let q = slot(rows, links, n, i, x.parent as usize);
         put_row(links, n, i, q, k);
-        k = next_site(x.site, k);
+        k = kinds::next_site(x.site, k);
         i += 1;
     }
 }

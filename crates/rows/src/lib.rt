@@ -1,26 +1,20 @@
 // One row or type of a table by value, and where the rows below each row stand, so that a walk over the tree reads each row once.
+use rooms::ROW_WORDS;
+use rooms::TYPE_WORDS;
 use rules::Femtofarad;
 use rules::Femtosecond;
-use rules::Kind;
 use rules::Ohm;
-use rules::Pin;
 use rules::Row;
 ghost use mathlib.Core.Path.{_≡_};
-ghost use mathlib.Core.List.{List};
-ghost use Prim.Native.Nat.{ℕ, _+_, _*_, _≤_, _<_};
+ghost use Prim.Native.Nat.{_+_, _*_, _≤_, _<_};
 ghost use lib.ListN.{length, getD};
-ghost use Rattle.rules.specs.Entries.{siteCount};
 ghost use Rattle.rules.specs.Quantities.{typesRoom, rowsRoom};
 ghost use Rattle.rules.specs.Tables.{typeWords, rowWords};
-ghost use Rattle.laws.specs.Tabled.{kindOf, rowAt, rowsFrom, repeaterAt};
+ghost use Rattle.laws.specs.Tabled.{rowAt, rowsFrom, repeaterAt};
 ghost use Rattle.rows.specs.Rows.{IsBuffer};
 ghost use Rattle.rows.specs.Links.{Links, Earlier, Counted, Standing, linksRoom, nextAt, sitesAt};
 
 pub mod backward;
-
-const ROW_WORDS: usize = 6;
-
-const TYPE_WORDS: usize = 3;
 
 const NEXT_AT: usize = 256;
 
@@ -33,29 +27,13 @@ pub struct Buffer {
     pub own: Femtosecond,
 }
 
-// 0 is a driver, 1 a plain point, anything else a sink.
-pub fn kind_of(kind: u32, pin: u32, due: i64) -> Kind
-    ensures { λ r. ⌜ r ≡ kindOf kind pin due ⌝ }
-{
-    if kind == 0 {
-        return Kind::Driver;
-    }
-    if kind == 1 {
-        return Kind::Point;
-    }
-    Kind::Sink(Pin {
-        load: Femtofarad(pin),
-        due: Femtosecond(due),
-    })
-}
-
 pub fn row_at(rows: &[u32], due: &[i64], i: usize) -> Row
     requires { ⌜ (i < rowsRoom) × ((rowWords * i + rowWords ≤ length (now rows)) × (i < length (now due))) ⌝ }
     ensures { λ r. ⌜ r ≡ rowAt (now (rows .entry)) (now (due .entry)) i ⌝ }
 {
     let at = ROW_WORDS * i;
     let when = due[i];
-    let kind = kind_of(rows[at], rows[at + 5], when);
+    let kind = kinds::kind_of(rows[at], rows[at + 5], when);
     let parent = rows[at + 1];
     let site = rows[at + 4] == 1;
     Row {
@@ -93,17 +71,6 @@ fn wide(x: u16) -> usize
     x as usize
 }
 
-// The number of the next site, behind a row that has one or none.
-pub fn next_site(site: bool, k: usize) -> usize
-    requires { ⌜ k ≤ rowsRoom ⌝ }
-    ensures { λ r. ⌜ r ≡ k + siteCount site ⌝ }
-{
-    if site {
-        return k + 1;
-    }
-    k
-}
-
 // How many sites come before each row; and no row is below any row so far.
 fn count_sites(rows: &[u32], due: &[i64], n: usize, links: &mut [u16])
     requires { ⌜ Standing (now rows) (now due) n ⌝ }
@@ -116,7 +83,7 @@ fn count_sites(rows: &[u32], due: &[i64], n: usize, links: &mut [u16])
         let x = row_at(rows, due, i);
         links[i] = place(n);
         links[SITES_AT + i] = place(k);
-        k = next_site(x.site, k);
+        k = kinds::next_site(x.site, k);
         i += 1;
     }
 }

@@ -1,8 +1,8 @@
 -- The promise of each public entry: what it was handed, what it answers, and every lent word afterwards, for every input. Assumes
 -- nothing.
 use mathlib.Core.Path.{_≡_}
-use mathlib.Core.Bool.{Bool, true, false, cond, _||_}
-use mathlib.Core.List.{List, [], _∷_, _++_, map}
+use mathlib.Core.Bool.{Bool, false, cond, _||_}
+use mathlib.Core.List.{List, [], _∷_, map}
 use mathlib.Core.Option.{Option, none, some}
 use Prim.Native.Nat.{ℕ, _+_, _*_, _≤_}
 use lib.Dec.{leb, ltb}
@@ -29,7 +29,7 @@ use Rattle.rules.specs.Placements.{marks, placementRefusal}
 use Rattle.rules.specs.Net.{Tree, atRow, driverOhms}
 use Rattle.rules.specs.Slack.{load, IsSlack}
 use Rattle.rules.specs.Pairs.{Pair, Unbeaten, Reached, Planned, sitesOn}
-use Rattle.rules.specs.Answers.{Figures, refused, done, Timing, noCounts, noTiming, readFigures, checkFigures, slackFigures, planFigures, listFigures}
+use Rattle.rules.specs.Answers.{refused, done, Timing, noCounts, noTiming, readFigures, checkFigures, slackFigures, planFigures, listFigures}
 
 -- what is promised where something is refused, and where nothing is
 abbrev pub Settled : Option Refusal → (Refusal → Type 0) → Type 0 → Type 0

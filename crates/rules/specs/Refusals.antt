@@ -1,12 +1,11 @@
 -- The refusal list and its order, stated once for texts and tables: line by line, and in one line 1, 2, 3, 4; after the last line
 -- the missing driver and 5. Assumes nothing.
-use mathlib.Core.Bool.{Bool, true, false, cond, not, _&&_, _||_}
+use mathlib.Core.Bool.{Bool, true, false, not, _&&_, _||_}
 use mathlib.Core.List.{List, [], _∷_, _++_}
 use mathlib.Core.Option.{Option, none, some}
 use Prim.Native.Nat.{ℕ, zero, suc, _+_}
 use lib.Dec.{leb, ltb, eqb}
-use lib.IntN.{ℤ}
-use lib.ListN.{length, getD}
+use lib.ListN.{length}
 use lib.Signed.{ltZ}
 use Rattle.rules.specs.declared.Kind.{Kind}
 use Rattle.rules.specs.declared.Kind.the-variants.{Driver, Point, Sink}
@@ -14,7 +13,7 @@ use Rattle.rules.specs.declared.Refusal.{Refusal}
 use Rattle.rules.specs.declared.Refusal.the-variants.{Form, Range, Room, Parent, Childless, Mark, Short, NoRow}
 use Rattle.rules.specs.declared.Row.{Row}
 use Rattle.rules.specs.Lists.{orElse, when}
-use Rattle.rules.specs.Quantities.{mostOhms, mostFemtofarads, mostOwn, earliestDue, latestDue, mostParent, mostSite, typesRoom, rowsRoom, sitesRoom, textRoom}
+use Rattle.rules.specs.Quantities.{mostOhms, mostFemtofarads, mostOwn, earliestDue, latestDue, mostParent, mostSite, typesRoom, rowsRoom, sitesRoom}
 use Rattle.rules.specs.Entries.{Entry, type, driver, point, sink, malformed, beyond, typesOf, rowsOf, sitesOf}
 
 -- the number that the paper gives each refusal, and its place

@@ -6,7 +6,7 @@ use Prim.Native.Char.{code}
 use Prim.Native.Nat.{ℕ}
 use Prim.Native.String as text
 use Prim.Native.String.{String}
-use lib.IntN.{ℤ, pos, negsuc}
+use lib.IntN.{pos}
 use Rattle.rules.specs.declared.Refusal.{Refusal}
 use Rattle.rules.specs.declared.Refusal.the-variants.{Form, Range, Room, Parent, Childless, Mark, Short, NoRow}
 use Rattle.rules.specs.Entries.{Entry, type, driver, point, sink, typesOf, rowsOf, rowOf, sitesOf}

@@ -1,6 +1,6 @@
 -- The net as tables: three words a type, six words and a required time a row, and how many there are of each. It has the same entries
 -- in the same order as a text. Assumes nothing.
-use mathlib.Core.Bool.{Bool, true, false, cond, not, _&&_, _||_}
+use mathlib.Core.Bool.{Bool, false, cond, _&&_, _||_}
 use mathlib.Core.List.{List, [], _∷_, _++_}
 use Prim.Native.Nat.{ℕ, zero, suc, _+_, _*_, min}
 use lib.Dec.{ltb, eqb}

@@ -1,6 +1,6 @@
 -- The net as text: one record a line, fields parted by one tab, each line ended by a line feed. A text is the list of its bytes.
 -- Assumes nothing.
-use mathlib.Core.Bool.{Bool, true, false, cond, _&&_}
+use mathlib.Core.Bool.{Bool, cond, _&&_}
 use mathlib.Core.List.{List, [], _∷_}
 use mathlib.Core.Option.{Option, none, some}
 use Prim.Native.Char.{code}

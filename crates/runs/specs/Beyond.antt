@@ -1,7 +1,7 @@
 -- A pass stores in the work room only: the run is as long as it was, and all behind the room is as it was. Assumes nothing.
 use mathlib.Core.Path.{_≡_, refl, _∙_}
 use mathlib.Core.List.{List}
-use lib.ListN.{length, drop, set, length-set}
+use lib.ListN.{length, drop, length-set}
 use lib.Seq.{drop-set-lt}
 use Rattle.rules.specs.Quantities.{workRoom}
 use Rattle.rules.specs.declared.Cand.{Cand}

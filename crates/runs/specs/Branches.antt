@@ -18,7 +18,7 @@ use Rattle.rules.specs.declared.Cand.{Cand}
 use Rattle.turns.specs.declared.Step.the-variants.{Branch}
 use Rattle.turns.specs.declared.Pass.{Pass}
 use Rattle.turns.specs.declared.Turn.{Turn}
-use Rattle.turns.specs.Records.{candOf, cands}
+use Rattle.values.specs.Records.{candOf, cands}
 use Rattle.turns.specs.Turns.{passOf, Turned, onFrom, onWith}
 use Rattle.runs.specs.Passes.{first, second, Ready, Safe, Swept}
 use Rattle.runs.specs.Sweeps.{kept-safe, kept-swept}

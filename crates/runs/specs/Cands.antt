@@ -7,7 +7,7 @@ use lib.ListN.{length, getD, set, length-map}
 use Rattle.columns.specs.Run.{Candidate, blank}
 use Rattle.rules.specs.declared.Cand.{Cand}
 use Rattle.rules.specs.Promises.{zeros}
-use Rattle.turns.specs.Records.{candOf, cands}
+use Rattle.values.specs.Records.{candOf, cands}
 
 pub cands-length : (w : List Cand) → length (cands w) ≡ length w
 cands-length w = length-map w candOf

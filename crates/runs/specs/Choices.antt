@@ -20,9 +20,10 @@ use Rattle.turns.specs.declared.Step.the-variants.{FirstChoice, Choose}
 use Rattle.turns.specs.declared.Pass.{Pass}
 use Rattle.turns.specs.declared.Turn.{Turn}
 use Rattle.rules.specs.Promises.{zeros}
-use Rattle.turns.specs.Records.{candOf, cands}
+use Rattle.values.specs.Records.{candOf, cands}
 use Rattle.runs.specs.Cands.{cands-length, cands-at}
-use Rattle.turns.specs.Turns.{passOf, worthOf, Turned}
+use Rattle.values.specs.Values.{worthOf}
+use Rattle.turns.specs.Turns.{passOf, Turned}
 use Rattle.runs.specs.Passes.{first, second, Ready, Safe, Swept}
 use Rattle.runs.specs.Sweeps.{kept-safe, kept-swept}
 

@@ -12,7 +12,7 @@ use Rattle.rules.specs.declared.Cand.{Cand}
 use Rattle.turns.specs.declared.Step.the-variants.{Move}
 use Rattle.turns.specs.declared.Pass.{Pass}
 use Rattle.turns.specs.declared.Turn.{Turn}
-use Rattle.turns.specs.Records.{cands}
+use Rattle.values.specs.Records.{cands}
 use Rattle.turns.specs.Turns.{passOf, Turned}
 use Rattle.runs.specs.Passes.{first, second, Ready, Safe, Swept}
 use Rattle.runs.specs.Sweeps.{kept-safe, kept-swept}

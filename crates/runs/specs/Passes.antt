@@ -1,14 +1,14 @@
 -- A pass over a run of records: a turn, and turns until nothing is left. Assumes nothing.
 use mathlib.Core.Path.{_≡_}
 use mathlib.Core.List.{List}
-use Prim.Native.Nat.{ℕ, _≤_, _<_}
+use Prim.Native.Nat.{_≤_, _<_}
 use lib.ListN.{length, getD, set}
 use Rattle.rules.specs.Quantities.{workRoom}
 use Rattle.rules.specs.declared.Cand.{Cand}
 use Rattle.turns.specs.declared.Pass.{Pass}
 use Rattle.turns.specs.declared.Turn.{Turn}
 use Rattle.rules.specs.Promises.{zeros}
-use Rattle.turns.specs.Records.{candOf}
+use Rattle.values.specs.Records.{candOf}
 use Rattle.turns.specs.Turns.{Here, Can, Turned}
 
 -- what the pass reads

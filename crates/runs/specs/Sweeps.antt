@@ -1,19 +1,20 @@
 -- What is left of a pass falls at each turn, and an invariant that every turn keeps holds where nothing is left. Assumes nothing.
-use mathlib.Core.Path.{_≡_, refl, sym, ap, subst}
+use mathlib.Core.Path.{_≡_, refl, ap}
 use mathlib.Core.Bool.{Bool, true, false, cond}
 use mathlib.Core.List.{List}
 use Prim.Native.Nat.{ℕ, zero, suc, _+_, _-_, _≤_, _<_}
 use native.Mathlib.Omega.{arith}
 use lib.Dec.{ltb}
 use lib.Signed.{ltZ}
-use lib.ListN.{length, getD, set}
+use lib.ListN.{set}
 use Rattle.pairs.specs.Stands.{isBelow, isCovering}
 use Rattle.rules.specs.declared.Cand.{Cand}
 use Rattle.turns.specs.declared.Step.{Step}
 use Rattle.turns.specs.declared.Step.the-variants.{Put, Move, FirstWire, Wire, FirstChoice, Choose, Insert, Shift, Branch}
 use Rattle.turns.specs.declared.Pass.{Pass}
 use Rattle.turns.specs.declared.Turn.{Turn}
-use Rattle.turns.specs.Turns.{passOf, Here, Turned, Searching, Shifting, Inserting, worthOf, bothLeft, onFrom, onWith}
+use Rattle.values.specs.Values.{worthOf}
+use Rattle.turns.specs.Turns.{passOf, Turned, Shifting, onFrom, onWith}
 use Rattle.runs.specs.Passes.{first, second, Ready, Took, Safe, over, more, Swept, none, turn}
 
 -- a turn that goes on with fewer

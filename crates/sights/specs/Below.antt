@@ -22,7 +22,7 @@ use Rattle.walks.specs.Made.{Made, Wired, Hang}
 use Rattle.walks.specs.Links.{from, room-next, room-alone}
 use Rattle.walks.specs.Recursion.{next-there, alone-wired, alone-made, own-room, beside-hang, beside-made}
 use Rattle.rules.specs.declared.Cand.{Cand}
-use Rattle.turns.specs.Records.{cands}
+use Rattle.values.specs.Records.{cands}
 use Rattle.runs.specs.Cands.{cands-length}
 use Rattle.jobs.specs.declared.Job.{Job}
 use Rattle.jobs.specs.Jobs.{RowIn, hangJob, hangAt, Able, Worked}

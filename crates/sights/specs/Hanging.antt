@@ -1,12 +1,13 @@
 -- The recursion over the rows on a run of records: what each call needs and gives. Assumes nothing.
 use mathlib.Core.Path.{_≡_}
 use mathlib.Core.Bool.{cond}
-use mathlib.Core.List.{List, []}
+use mathlib.Core.List.{List}
 use Prim.Native.Nat.{ℕ, _+_, _-_, _*_, _≤_, _<_}
 use lib.IntN.{ℤ}
 use lib.ListN.{length, getD, drop}
 use Rattle.rules.specs.Quantities.{typesRoom, workRoom}
 use Rattle.rules.specs.Tables.{typeWords}
+use Rattle.rules.specs.Refusals.{isSink}
 use Rattle.laws.specs.Accepted.{Accepted}
 use Rattle.laws.specs.Room.{HasRoom}
 use Rattle.laws.specs.Walk.{seenAt}
@@ -16,8 +17,7 @@ use Rattle.rows.specs.Links.{Standing, Links, nextAt}
 use Rattle.walks.specs.Made.{Made}
 use Rattle.walks.specs.Links.{from}
 use Rattle.rules.specs.declared.Cand.{Cand}
-use Rattle.turns.specs.Records.{cands}
-use Rattle.jobs.specs.Jobs.{isPin}
+use Rattle.values.specs.Records.{cands}
 
 -- an accepted net in its tables, with its links
 pub record Net (rows : List ℕ) (due : List ℤ) (types links : List ℕ) (count n : ℕ) : Type 0 where
@@ -28,7 +28,7 @@ pub record Net (rows : List ℕ) (due : List ℤ) (types links : List ℕ) (coun
 
 -- the first row below row c: a sink has none
 abbrev pub firstAt : (rows : List ℕ) (due : List ℤ) (links : List ℕ) (n c : ℕ) → ℕ
-firstAt rows due links n c = cond (isPin (rowAt rows due c .kind)) n (getD links c 0)
+firstAt rows due links n c = cond (isSink (rowAt rows due c .kind)) n (getD links c 0)
 
 -- the next row beside row c
 abbrev pub nextOf : (links : List ℕ) (c : ℕ) → ℕ

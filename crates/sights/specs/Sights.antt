@@ -1,7 +1,7 @@
 -- The list at a row of a net in its tables: from what hangs under it, by the passes of its site. Assumes nothing.
 use mathlib.Core.Path.{_≡_, refl, _∙_}
 use mathlib.Core.Bool.{Bool, true, false, not, cond}
-use mathlib.Core.List.{List, []}
+use mathlib.Core.List.{List}
 use mathlib.Core.Option.{none}
 use Prim.Native.Nat.{ℕ, _+_, _-_, _≤_, _<_}
 use native.Mathlib.Omega.{arith}
@@ -18,7 +18,7 @@ use Rattle.rules.specs.Refusals.{isSink}
 use Rattle.rules.specs.Slack.{typeOf}
 use Rattle.laws.specs.Rows.{type-in}
 use Rattle.laws.specs.Room.{HasRoom}
-use Rattle.laws.specs.Walk.{noRow, sitesBefore, seenAt, child, under, under-end}
+use Rattle.laws.specs.Walk.{noRow, sitesBefore, seenAt, child, under-end}
 use Rattle.laws.specs.Tabled.{rowAt, rowsFrom, rows-length, repeatersFrom, repeaters-length, repeaters-at}
 use Rattle.marks.specs.Marks.{marks-zero}
 use Rattle.rows.specs.Links.{sitesAt, row-is}
@@ -28,12 +28,12 @@ use Rattle.walks.specs.Links.{from}
 use Rattle.walks.specs.Recursion.{pin-sited, pin-made, first-there, first-room, under-sited, under-made}
 use Rattle.rules.specs.declared.Cand.{Cand}
 use Rattle.turns.specs.declared.Pass.{Pass}
-use Rattle.turns.specs.Records.{cands}
+use Rattle.values.specs.Records.{cands}
 use Rattle.runs.specs.Cands.{cands-length, cands-set}
 use Rattle.runs.specs.Passes.{Safe, Swept}
 use Rattle.runs.specs.Puts.{puts-safe, puts-none, puts-one}
 use Rattle.jobs.specs.declared.Job.{Job}
-use Rattle.jobs.specs.Jobs.{RowIn, isPin, pinOf, pinPass, siteJob, Able, Worked}
+use Rattle.jobs.specs.Jobs.{RowIn, pinOf, pinPass, siteJob, Able, Worked}
 use Rattle.jobs.specs.SiteJobs.{site-able, site-worked}
 use Rattle.sights.specs.Hanging.{Net, Hangs, Hung}
 
@@ -72,7 +72,7 @@ module _ (ws : List ℕ) (ds : List ℤ) (ts ls : List ℕ) (count n : ℕ) (N :
   types-few = typed .few
 
   -- ---- at row c, made at p
-  module _ (c : ℕ) (h : c < n) (p : ℕ) (room : HasRoom count p (n - (c + 1)) (seenAt R c)) (first : ℕ) (first-is : first ≡ cond (isPin (rowAt ws ds c .kind)) n (getD ls c 0)) where
+  module _ (c : ℕ) (h : c < n) (p : ℕ) (room : HasRoom count p (n - (c + 1)) (seenAt R c)) (first : ℕ) (first-is : first ≡ cond (isSink (rowAt ws ds c .kind)) n (getD ls c 0)) where
     abbrev x : Row
     x = rowAt ws ds c
 
@@ -94,34 +94,34 @@ module _ (ws : List ℕ) (ds : List ℤ) (ts ls : List ℕ) (count n : ℕ) (N :
     room-a : HasRoom (length types) a (length R - (c + 1)) (seenAt R c)
     room-a = rw (types-n, rows-n, past-end p) room
 
-    plain-of : (kind : Kind) → isPin kind ≡ false → T (not (isSink kind))
+    plain-of : (kind : Kind) → isSink kind ≡ false → T (not (isSink kind))
     plain-of Driver e = tt
     plain-of Point e = tt
     plain-of (Sink pin) e = absurd (let z : _≡_ {A = ℕ} 0 1 = cc in omega arith)
 
-    pin-of : (kind : Kind) → isPin kind ≡ true → (pin : Pin) × (kind ≡ Sink pin)
+    pin-of : (kind : Kind) → isSink kind ≡ true → (pin : Pin) × (kind ≡ Sink pin)
     pin-of Driver e = absurd (let z : _≡_ {A = ℕ} 0 1 = cc in omega arith)
     pin-of Point e = absurd (let z : _≡_ {A = ℕ} 0 1 = cc in omega arith)
     pin-of (Sink pin) e = (pin, refl)
 
-    first-row : isPin (x .kind) ≡ false → first ≡ child R c (c + 1)
+    first-row : isSink (x .kind) ≡ false → first ≡ child R c (c + 1)
     first-row e = first-is ∙ rw e (N .linked .first c inside)
 
-    first-end : isPin (x .kind) ≡ true → first ≡ n
+    first-end : isSink (x .kind) ≡ true → first ≡ n
     first-end e = first-is ∙ rw e
 
     -- where the rows below begin
     pub first-after : (c < first) × (first ≤ n)
-    first-after = go (isPin (x .kind)) refl
+    first-after = go (isSink (x .kind)) refl
       where
-        go : (b : Bool) → isPin (x .kind) ≡ b → (c < first) × (first ≤ n)
+        go : (b : Bool) → isSink (x .kind) ≡ b → (c < first) × (first ≤ n)
         go true e = let z = first-end e in (omega arith, omega arith)
         go false e = let z = first-there (N .accepted) c a inside room-a x x-row k k-row (plain-of (x .kind) e) first (first-row e) in (z .0, omega (arith, z .1, rows-n))
 
     pub under-hangs : (w : List Cand) → workRoom ≤ length w → Hangs ws ds ts ls count n first p w
-    under-hangs w long = record { net = N; one = omega (arith, first-after .0); upto = first-after .1; long = long; room = go (isPin (x .kind)) refl }
+    under-hangs w long = record { net = N; one = omega (arith, first-after .0); upto = first-after .1; long = long; room = go (isSink (x .kind)) refl }
       where
-        go : (b : Bool) → isPin (x .kind) ≡ b → HasRoom count p (n - first) (from R first)
+        go : (b : Bool) → isSink (x .kind) ≡ b → HasRoom count p (n - first) (from R first)
         go true e = let z = first-end e in rw (z, from-none) (omega (arith, room))
         go false e = rw (types-n, rows-n, past-end p) at (first-room (N .accepted) c a inside room-a x x-row k k-row (plain-of (x .kind) e) first (first-row e))
 
@@ -161,7 +161,7 @@ module _ (ws : List ℕ) (ds : List ℤ) (ts ls : List ℕ) (count n : ℕ) (N :
         sited : Sited (cands put) a 1 count (x .site) k
         sited = rw types-n at (pin-sited (N .accepted) c a inside room-a x x-row k k-row (cands w₂) (cands put) long₂ pin e put-is)
 
-        one : cond (isPin (x .kind)) 1 below ≡ 1
+        one : cond (isSink (x .kind)) 1 below ≡ 1
         one = rw e
 
         sink-able : Able ts j w₂
@@ -173,7 +173,7 @@ module _ (ws : List ℕ) (ds : List ℤ) (ts ls : List ℕ) (count n : ℕ) (N :
             record { before = m .before ∙ made-a .before; shows = m .shows; fits = m .fits }
 
       -- ---- any other row
-      module _ (e : isPin (x .kind) ≡ false) where
+      module _ (e : isSink (x .kind) ≡ false) where
         none-safe : Safe (pinPass j) w₂
         none-safe = rw e (puts-safe 0 a (pinOf (x .kind)) _ w₂ (omega (arith, room)) long)
 
@@ -183,7 +183,7 @@ module _ (ws : List ℕ) (ds : List ℤ) (ts ls : List ℕ) (count n : ℕ) (N :
         plain-sited : Sited (cands w₂) a below count (x .site) k
         plain-sited = rw types-n at (under-sited (N .accepted) c a inside room-a x x-row k k-row (plain-of (x .kind) e) first (first-row e) (cands w₁) (cands w₂) long₂ below made-a)
 
-        same-own : cond (isPin (x .kind)) 1 below ≡ below
+        same-own : cond (isSink (x .kind)) 1 below ≡ below
         same-own = rw e
 
         plain-able : Able ts j w₂
@@ -193,15 +193,15 @@ module _ (ws : List ℕ) (ds : List ℤ) (ts ls : List ℕ) (count n : ℕ) (N :
         plain-made w₃ own g = under-made (N .accepted) c a inside room-a x x-row k k-row (plain-of (x .kind) e) first (first-row e) (cands w₁) (cands w₂) long₂ below made-a (cands w₃) own (site-worked ts count typed x k p below w₂ long below w₂ refl same-own fits none-safe unpinned plain-sited g)
 
       pub sight-able : Able ts j w₂
-      sight-able = go (isPin (x .kind)) refl
+      sight-able = go (isSink (x .kind)) refl
         where
-          go : (b : Bool) → isPin (x .kind) ≡ b → Able ts j w₂
+          go : (b : Bool) → isSink (x .kind) ≡ b → Able ts j w₂
           go true e = let q = pin-of (x .kind) e in sink-able (q .0) (q .1)
           go false e = plain-able e
 
       pub sight-made : (w₃ : List Cand) (own : ℕ) → Worked ts j w₂ w₃ own → Made types (seenAt R c) (cands w₁) (cands w₃) p own
-      sight-made w₃ own g = rw (past-end p) at (go (isPin (x .kind)) refl)
+      sight-made w₃ own g = rw (past-end p) at (go (isSink (x .kind)) refl)
         where
-          go : (b : Bool) → isPin (x .kind) ≡ b → Made types (seenAt R c) (cands w₁) (cands w₃) a own
+          go : (b : Bool) → isSink (x .kind) ≡ b → Made types (seenAt R c) (cands w₁) (cands w₃) a own
           go true e = let q = pin-of (x .kind) e in sink-made (q .0) (q .1) w₃ own g
           go false e = plain-made e w₃ own g

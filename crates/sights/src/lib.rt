@@ -1,26 +1,11 @@
 // The planner's recursion over the table, in the run: the list of what hangs from a row on, and the list at a row.
 use rules::Cand;
-use rules::Kind;
 ghost use mathlib.Core.Path.{_≡_};
-ghost use mathlib.Core.Bool.{cond};
 ghost use Prim.Native.Nat.{_<_};
-ghost use lib.ListN.{length, getD};
-ghost use Rattle.rules.specs.Quantities.{rowsRoom};
 ghost use Rattle.laws.specs.Tabled.{rowsFrom};
-ghost use Rattle.rows.specs.Links.{linksRoom, Standing, Earlier, Links};
-ghost use Rattle.jobs.specs.Jobs.{isPin, RowIn};
+ghost use Rattle.rows.specs.Links.{Standing, Earlier, Links};
+ghost use Rattle.jobs.specs.Jobs.{RowIn};
 ghost use Rattle.sights.specs.Hanging.{firstAt, nextOf, Hangs, Hung, Follows, Sees, Seen, Makes};
-
-fn first_of(links: &[u16], n: usize, c: usize, kind: Kind) -> usize
-    requires { ⌜ (c < rowsRoom) × (length (now links) ≡ linksRoom) ⌝ }
-    ensures { λ r. ⌜ r ≡ cond (isPin kind) n (getD (now (links .entry)) c 0) ⌝ }
-{
-    match kind {
-        Kind::Driver => rows::first_below(links, c),
-        Kind::Point => rows::first_below(links, c),
-        Kind::Sink(pin) => n,
-    }
-}
 
 // The first row below row c, or the number past the last row: a sink has none below it.
 pub fn first_at(rows: &[u32], due: &[i64], links: &[u16], n: usize, c: usize) -> usize
@@ -29,7 +14,10 @@ pub fn first_at(rows: &[u32], due: &[i64], links: &[u16], n: usize, c: usize) ->
 {
     let x = rows::row_at(rows, due, c);
     let kind = x.kind;
-    first_of(links, n, c, kind)
+    if kinds::is_sink(kind) {
+        return n;
+    }
+    rows::first_below(links, c)
 }
 
 // The list of row c behind its wire and of the rows after it under the same parent, made at a place: the later rows first, the row's own

@@ -3,6 +3,7 @@ use columns::cells;
 use columns::choices;
 use columns::moves;
 use inserts::Bounds;
+use rooms::TYPE_WORDS;
 use rules::Femtofarad;
 use rules::Ohm;
 ghost use mathlib.Core.Path.{_≡_};
@@ -37,9 +38,9 @@ pub fn put_choice(
     requires { ⌜ (k < sitesRoom) × (to < workRoom) ⌝ }
     ensures { λ _. ⌜ run (now (loads .exit)) (now (times .exit)) (now (words .exit)) ≡ set (run (now (loads .entry)) (now (times .entry)) (now (words .entry))) to (chosenBy (repeaterAt (now (types .entry)) t) (mark k (t + 1)) (part at (at + n) (run (now (loads .entry)) (now (times .entry)) (now (words .entry))))) ⌝ }
 {
-    let input = types[3 * t];
-    let ohms = types[3 * t + 1];
-    let own = types[3 * t + 2];
+    let input = types[TYPE_WORDS * t];
+    let ohms = types[TYPE_WORDS * t + 1];
+    let own = types[TYPE_WORDS * t + 2];
     let best = choices::best_from(loads, times, at, n, own, Ohm(ohms));
     let from = best.at;
     let time = best.value;

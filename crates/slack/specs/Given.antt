@@ -1,13 +1,11 @@
 -- Tables that are not refused, and a placement: what the code is given, and that what it answers is what is promised. Assumes nothing.
 use mathlib.Core.Path.{_≡_, refl, sym, ap, _∙_}
 use mathlib.Core.Bool.{Bool, true, false, _||_}
-use mathlib.Core.List.{List, [], _∷_}
+use mathlib.Core.List.{List}
 use mathlib.Core.Option.{Option, none, some, Option·some-ne-none}
 use Prim.Native.Nat.{ℕ, _*_, _≤_}
 use native.Mathlib.Omega.{arith}
-use lib.Dec.{ltb}
 use lib.IntN.{ℤ}
-use lib.ListN.{length}
 use borrow.Author.Tests.{ltb-false}
 use Rattle.rules.specs.declared.Checking.the-variants.{Accepted as Passes, Refused as Stops}
 use Rattle.rules.specs.declared.Refusal.{Refusal}
@@ -35,7 +33,8 @@ use Rattle.laws.specs.Walk.{seenAt, atRow-seen}
 use Rattle.laws.specs.Checked.{Passed}
 use Rattle.rows.specs.Given.{neither, held, areas, net-accepted, standing, driver-is}
 use Rattle.net.specs.TableSteps.{checking, tablesOf, countsOf}
-use Rattle.slack.specs.Hung.{seenAs, hungOf, slackHung}
+use Rattle.upward.specs.Hung.{seenAs, slackHung}
+use Rattle.slack.specs.Hung.{hungOf}
 use Rattle.slack.specs.Ready.{Sound, hungAt}
 use Rattle.slack.specs.Sound.{hung-same, sound}
 use Rattle.slack.specs.Marked.{NetOf, Marking}

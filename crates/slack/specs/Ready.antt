@@ -22,10 +22,11 @@ use Rattle.laws.specs.Taken.{RowIn, KindIn}
 use Rattle.laws.specs.Tabled.{rowAt, rowsFrom, rows-length, repeaterAt}
 use Rattle.laws.specs.Walk.{noRow, sitesBefore, under, under-end, under-taken, seenAt, Child, child-is}
 use Rattle.rows.specs.Links.{Links, Earlier, Standing, nextAt, sitesAt, row-is}
-use Rattle.slack.specs.declared.Hung.{Hung}
-use Rattle.slack.specs.declared.Hung.the-variants.{Nothing}
+use Rattle.upward.specs.declared.Hung.{Hung}
+use Rattle.upward.specs.declared.Hung.the-variants.{Nothing}
 use Rattle.slack.specs.Sites.{site-number}
-use Rattle.slack.specs.Hung.{Within, wireHung, besideHung, siteHung, startHung, hungOf, hung-wired, hung-beside, hung-seen, tableTypes, Siting}
+use Rattle.upward.specs.Hung.{Within, wireHung, besideHung, startHung}
+use Rattle.slack.specs.Hung.{siteHung, hungOf, hung-wired, hung-beside, hung-seen, tableTypes, Siting}
 
 -- what hangs under the parent of row c among the rows from c on, and what is at row i
 unfoldable pub hungBelow : (rows : List ℕ) (due : List ℤ) (types words : List ℕ) (n c : ℕ) → Hung

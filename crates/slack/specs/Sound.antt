@@ -21,7 +21,8 @@ use Rattle.laws.specs.Within.{Within as WithinTree, within-under, within-row, w
 use Rattle.laws.specs.Tabled.{rowsFrom, rows-length, repeatersFrom, repeaters-length}
 use Rattle.laws.specs.Walk.{noRow, sitesBefore, sitesBefore-step, under, seenAt, atRow-seen}
 use Rattle.rows.specs.Links.{Standing}
-use Rattle.slack.specs.Hung.{Within, seenAs, hungOf, tableTypes, type-is}
+use Rattle.upward.specs.Hung.{Within, seenAs}
+use Rattle.slack.specs.Hung.{hungOf, tableTypes, type-is}
 use Rattle.slack.specs.Ready.{Sound, hungAt}
 
 -- ---- types past those that are counted are not looked at

@@ -1,4 +1,5 @@
 // Refusal 6: a placement marks a type the net hasn't, or a site it hasn't; the lowest site first.
+use rooms::SITES_ROOM;
 use rules::Checking;
 use rules::Refusal;
 ghost use mathlib.Core.Path.{_≡_};
@@ -11,8 +12,6 @@ ghost use Rattle.rules.specs.Placements.{marks, marksFrom, placementRefusal};
 ghost use Rattle.rules.specs.Quantities.{typesRoom, rowsRoom, sitesRoom, placementRoom};
 ghost use Rattle.net.specs.TableSteps.{checking};
 ghost use Rattle.slack.specs.Marked.{overMark, NetOf, Marking};
-
-const SITES_ROOM: usize = 64;
 
 // Whether a row's site, site k, is marked with a type the net hasn't.
 fn is_over(words: &[u64], site: bool, k: usize, count: usize) -> bool
@@ -62,7 +61,7 @@ pub fn check_marks(rows: &[u32], due: &[i64], count: usize, n: usize, words: &[u
         if is_over(words, x.site, k, count) {
             return Checking::Refused(Refusal::Mark(line_of(count, i)));
         }
-        k = rows::next_site(x.site, k);
+        k = kinds::next_site(x.site, k);
         i += 1;
     }
     check_past(words, k)

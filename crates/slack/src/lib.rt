@@ -1,16 +1,11 @@
 // The slack of a given placement: what is refused first, then loads and times from the sinks up, by recursion over the tree.
+use rooms::PLACEMENT_ROOM;
 use rules::Checking;
-use rules::Femtofarad;
-use rules::Femtosecond;
-use rules::Ohm;
-use rules::Refusal;
 use rules::Slacking;
 ghost use mathlib.Core.Path.{_≡_};
-ghost use Prim.Native.Nat.{_≤_};
 ghost use Rattle.rules.specs.Promises.{SlackPromise};
-ghost use Rattle.rules.specs.Quantities.{mostOhms};
 ghost use Rattle.laws.specs.Tabled.{rowAt};
-ghost use Rattle.slack.specs.Hung.{Within, slackHung};
+ghost use Rattle.upward.specs.Hung.{slackHung};
 ghost use Rattle.slack.specs.Ready.{Sound, hungAt};
 ghost use Rattle.net.specs.TableSteps.{tablesOf, countsOf};
 ghost use Rattle.slack.specs.Given.{Given};
@@ -18,26 +13,6 @@ ghost use Rattle.slack.specs.Given.{Given};
 mod legal;
 mod steps;
 mod tree;
-
-const PLACEMENT_ROOM: usize = 4;
-
-// What hangs somewhere: nothing, or the load it shows and its time.
-pub enum Hung {
-    Nothing,
-    Seen(Femtofarad, Femtosecond),
-}
-
-// The time at the driver less the driver's delay. Something hangs under every driver, so `Nothing` never comes here.
-fn slack_at(h: Hung, driver: Ohm) -> Slacking
-    requires { ⌜ (driver .0 ≤ mostOhms) × Within h ⌝ }
-    ensures { λ r. ⌜ r ≡ slackHung (driver .0) h ⌝ }
-{
-    let Hung::Seen(load, time) = h else {
-        return Slacking::Refused(Refusal::NoRow);
-    };
-    let slack = units::less(time, units::delay(driver, load));
-    Slacking::Slack { slack, load }
-}
 
 // Of a placement that is not refused: its slack, and the load on the driver.
 fn timing(types: &[u32], rows: &[u32], due: &[i64], n: usize, words: &[u64]) -> Slacking
@@ -48,7 +23,7 @@ fn timing(types: &[u32], rows: &[u32], due: &[i64], n: usize, words: &[u64]) -> 
     rows::link(rows, due, n, &mut links);
     let h = tree::seen(rows, due, types, words, &links, n, 0);
     let driver = rows::row_at(rows, due, 0);
-    slack_at(h, driver.resistance)
+    upward::slack_at(h, driver.resistance)
 }
 
 // Of tables that are not refused: refusal 6, or the slack.

@@ -1,104 +1,11 @@
-// The steps from the sinks up, by value: behind a wire, beside each other, behind a repeater, and what a row starts from.
-use super::Hung;
-use rows::Buffer;
-use rules::Femtofarad;
-use rules::Femtosecond;
-use rules::Kind;
-use rules::Ohm;
+// The step at a site: behind the repeater that it is marked with, if there is one.
+use upward::Hung;
 ghost use mathlib.Core.Path.{_≡_};
 ghost use mathlib.Core.Bool.{true};
-ghost use Prim.Native.Nat.{_+_, _*_, _≤_};
-ghost use lib.IntN.{pos, _-ℤ_};
-ghost use lib.Signed.{mag};
-ghost use Rattle.rules.specs.Quantities.{_⊖_, mostOhms, mostLoad};
-ghost use Rattle.rules.specs.Entries.{Repeater};
 ghost use Rattle.rules.specs.Placements.{marks};
-ghost use Rattle.rows.specs.Rows.{IsBuffer};
-ghost use Rattle.laws.specs.Integers.{minℤ};
-ghost use Rattle.slack.specs.Hung.{seenAs, farTime, Within, BufferIn, wireHung, besideHung, repeatHung, startHung, markHung, siteHung, Siting, tableTypes};
+ghost use Rattle.slack.specs.Hung.{markHung, siteHung, Siting, tableTypes};
 
-// Behind a wire: the whole capacitance counts at the far end.
-fn seen_behind_wire(l: Femtofarad, t: Femtosecond, r: Ohm, c: Femtofarad) -> Hung
-    requires { ⌜ (r .0 ≤ mostOhms) × ((c .0 + l .0 ≤ mostLoad) × (mag (t .0) ≤ farTime)) ⌝ }
-    ensures { λ s. ⌜ s ≡ seenAs (c .0 + l .0) (t .0 ⊖ (r .0 * (c .0 + l .0))) ⌝ }
-{
-    let load = units::together(c, l);
-    let time = units::less(t, units::delay(r, load));
-    Hung::Seen(load, time)
-}
-
-pub fn behind_wire(h: Hung, r: Ohm, c: Femtofarad) -> Hung
-    requires { ⌜ (r .0 ≤ mostOhms) × (Within h × Within (wireHung (r .0) (c .0) h)) ⌝ }
-    ensures { λ s. ⌜ s ≡ wireHung (r .0) (c .0) h ⌝ }
-{
-    match h {
-        Hung::Nothing => Hung::Nothing,
-        Hung::Seen(l, t) => seen_behind_wire(l, t, r, c),
-    }
-}
-
-// Two beside each other: their loads together, and the time of the one that is due first.
-fn seen_beside(l: Femtofarad, t: Femtosecond, m: Femtofarad, u: Femtosecond) -> Hung
-    requires { ⌜ l .0 + m .0 ≤ mostLoad ⌝ }
-    ensures { λ s. ⌜ s ≡ seenAs (l .0 + m .0) (minℤ (t .0) (u .0)) ⌝ }
-{
-    let load = units::together(l, m);
-    let time = units::earlier(t, u);
-    Hung::Seen(load, time)
-}
-
-pub fn beside(a: Hung, b: Hung) -> Hung
-    requires { ⌜ Within (besideHung a b) ⌝ }
-    ensures { λ s. ⌜ s ≡ besideHung a b ⌝ }
-{
-    let Hung::Seen(l, t) = a else {
-        return b;
-    };
-    let Hung::Seen(m, u) = b else {
-        return a;
-    };
-    seen_beside(l, t, m, u)
-}
-
-// Behind a repeater, worked out from the load it drives: it shows its own input load upward.
-fn seen_repeated(l: Femtofarad, t: Femtosecond, b: Buffer) -> Hung
-    requires { ⌜ BufferIn b × ((l .0 ≤ mostLoad) × (mag (t .0) ≤ farTime)) ⌝ }
-    ensures { λ s. ⌜ s ≡ seenAs (b .input .0) (t .0 -ℤ b .own .0 -ℤ pos (b .resistance .0 * l .0)) ⌝ }
-{
-    let own = b.own;
-    let resistance = b.resistance;
-    let input = b.input;
-    let early = units::less(t, own);
-    let time = units::less(early, units::delay(resistance, l));
-    Hung::Seen(input, time)
-}
-
-fn repeated(h: Hung, b: Buffer) -> Hung
-    requires { ⌜ BufferIn b × Within h ⌝ }
-    ensures { λ s. ⌜ ((x : Repeater) → IsBuffer x b → s ≡ repeatHung x h) ⌝ }
-{
-    match h {
-        Hung::Nothing => Hung::Nothing,
-        Hung::Seen(l, t) => seen_repeated(l, t, b),
-    }
-}
-
-// What a row starts from: a sink its pin, any other row what hangs under it.
-pub fn started(kind: Kind, under: Hung) -> Hung
-    ensures { λ s. ⌜ s ≡ startHung kind under ⌝ }
-{
-    match kind {
-        Kind::Driver => under,
-        Kind::Point => under,
-        Kind::Sink(pin) => {
-            let load = pin.load;
-            let due = pin.due;
-            Hung::Seen(load, due)
-        }
-    }
-}
-
-// With the repeater that a site is marked with, if there is one.
+// With the repeater that site k is marked with, if there is one.
 fn marked(types: &[u32], words: &[u64], k: usize, h: Hung) -> Hung
     requires { ⌜ Siting (now types) (now words) k h ⌝ }
     ensures { λ s. ⌜ s ≡ markHung (tableTypes (now (types .entry))) (marks (now (words .entry)) k) h ⌝ }
@@ -108,7 +15,7 @@ fn marked(types: &[u32], words: &[u64], k: usize, h: Hung) -> Hung
         return h;
     }
     let b = rows::type_at(types, mark - 1);
-    repeated(h, b)
+    upward::repeated(h, b)
 }
 
 // With the repeater of a row's site, if it has one: site k.

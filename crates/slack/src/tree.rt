@@ -1,9 +1,6 @@
 // What hangs at and below a row, by recursion over the tree: 256 less the row's number falls at each call.
-use super::Hung;
-use super::steps::behind_wire;
-use super::steps::beside;
 use super::steps::sited;
-use super::steps::started;
+use upward::Hung;
 ghost use mathlib.Core.Path.{_≡_};
 ghost use Prim.Native.Nat.{_≤_, _<_};
 ghost use Rattle.slack.specs.Ready.{Ready, hungBelow, hungAt};
@@ -28,10 +25,10 @@ fn below(
     }
     let x = rows::row_at(rows, due, c);
     let h = seen(rows, due, types, words, links, n, c);
-    let own = behind_wire(h, x.resistance, x.capacitance);
+    let own = upward::behind_wire(h, x.resistance, x.capacitance);
     let next = rows::next_beside(links, c);
     let later = below(rows, due, types, words, links, n, next);
-    beside(own, later)
+    upward::beside(own, later)
 }
 
 // What is at a row: its pin, or what hangs under it, with the repeater of its site; its wire does not count.
@@ -53,6 +50,6 @@ pub fn seen(
     let x = rows::row_at(rows, due, row);
     let k = rows::sites_before(links, row);
     let kind = x.kind;
-    let driven = started(kind, under);
+    let driven = upward::started(kind, under);
     sited(types, words, x.site, k, driven)
 }

@@ -1,26 +1,30 @@
 // The lists of a net's rows on both storages.
 use crate::saying;
 use compared::same;
+use rooms::LIST_ROOM;
+use rooms::ROWS_AREA;
+use rooms::ROWS_ROOM;
+use rooms::TYPES_AREA;
+use rooms::WORDS_AREA;
+use rooms::WORK_ROOM;
 use rules::Listing;
-
-const LIST_ROOM: usize = 257;
 
 // A net of fewer rows has all its lists told.
 const TOLD_ROWS: usize = 9;
 
 fn in_columns(
-    types: &[u32; 12],
-    rows: &[u32; 1536],
-    due: &[i64; 256],
+    types: &[u32; TYPES_AREA],
+    rows: &[u32; ROWS_AREA],
+    due: &[i64; ROWS_ROOM],
     t: usize,
     n: usize,
     row: usize,
-    list_loads: &mut [u32; 257],
-    list_times: &mut [i64; 257],
+    list_loads: &mut [u32; LIST_ROOM],
+    list_times: &mut [i64; LIST_ROOM],
 ) -> Listing {
-    let mut loads = [0u32; 768];
-    let mut times = [0i64; 768];
-    let mut words = [0u64; 3072];
+    let mut loads = [0u32; WORK_ROOM];
+    let mut times = [0i64; WORK_ROOM];
+    let mut words = [0u64; WORDS_AREA];
     plan::list_at(
         types,
         rows,
@@ -36,7 +40,7 @@ fn in_columns(
     )
 }
 
-fn pairs(loads: &[u32; 257], times: &[i64; 257], length: usize) {
+fn pairs(loads: &[u32; LIST_ROOM], times: &[i64; LIST_ROOM], length: usize) {
     let mut i = 0;
     while i < LIST_ROOM {
         if i < length {
@@ -52,8 +56,8 @@ fn line(
     records: bool,
     row: usize,
     answer: Listing,
-    loads: &[u32; 257],
-    times: &[i64; 257],
+    loads: &[u32; LIST_ROOM],
+    times: &[i64; LIST_ROOM],
 ) {
     if !told {
         return;
@@ -72,18 +76,18 @@ fn line(
 
 // Whether both give the same list at a row; told where it is wanted.
 pub fn alike_at(
-    types: &[u32; 12],
-    rows: &[u32; 1536],
-    due: &[i64; 256],
+    types: &[u32; TYPES_AREA],
+    rows: &[u32; ROWS_AREA],
+    due: &[i64; ROWS_ROOM],
     t: usize,
     n: usize,
     row: usize,
     told: bool,
 ) -> bool {
-    let mut our_loads = [0u32; 257];
-    let mut our_times = [0i64; 257];
-    let mut their_loads = [0u32; 257];
-    let mut their_times = [0i64; 257];
+    let mut our_loads = [0u32; LIST_ROOM];
+    let mut our_times = [0i64; LIST_ROOM];
+    let mut their_loads = [0u32; LIST_ROOM];
+    let mut their_times = [0i64; LIST_ROOM];
     let a = in_columns(types, rows, due, t, n, row, &mut our_loads, &mut our_times);
     let b = held::list_held(
         types,
@@ -109,9 +113,9 @@ fn is_told(row: usize, n: usize) -> bool {
 }
 
 fn first_unlike(
-    types: &[u32; 12],
-    rows: &[u32; 1536],
-    due: &[i64; 256],
+    types: &[u32; TYPES_AREA],
+    rows: &[u32; ROWS_AREA],
+    due: &[i64; ROWS_ROOM],
     t: usize,
     n: usize,
 ) -> usize {
@@ -128,9 +132,9 @@ fn first_unlike(
 
 // The lists at every row.
 pub fn rows_alike(
-    types: &[u32; 12],
-    rows: &[u32; 1536],
-    due: &[i64; 256],
+    types: &[u32; TYPES_AREA],
+    rows: &[u32; ROWS_AREA],
+    due: &[i64; ROWS_ROOM],
     t: usize,
     n: usize,
 ) -> bool {

@@ -15,12 +15,21 @@ mod listing;
 mod planning;
 mod saying;
 
+use rooms::ROWS_AREA;
+use rooms::ROWS_ROOM;
+use rooms::TYPES_AREA;
 use rules::Reading;
 
 const INPUT_ROOM: usize = 131_072;
 
 // Both storages asked for a net.
-fn compare(types: &[u32; 12], rows: &[u32; 1536], due: &[i64; 256], t: usize, n: usize) {
+fn compare(
+    types: &[u32; TYPES_AREA],
+    rows: &[u32; ROWS_AREA],
+    due: &[i64; ROWS_ROOM],
+    t: usize,
+    n: usize,
+) {
     let planned = planning::alike(types, rows, due, t, n);
     let driver = listing::alike_at(types, rows, due, t, n, 0, true);
     let listed = listing::rows_alike(types, rows, due, t, n);
@@ -28,9 +37,9 @@ fn compare(types: &[u32; 12], rows: &[u32; 1536], due: &[i64; 256], t: usize, n:
 }
 
 fn report(text: &[u8]) {
-    let mut types = [0u32; 12];
-    let mut rows = [0u32; 1536];
-    let mut due = [0i64; 256];
+    let mut types = [0u32; TYPES_AREA];
+    let mut rows = [0u32; ROWS_AREA];
+    let mut due = [0i64; ROWS_ROOM];
     let read = net::read_net(text, &mut types, &mut rows, &mut due);
     match read {
         Reading::Refused(r) => {

@@ -2,9 +2,15 @@
 use crate::saying;
 use compared::figures;
 use compared::same;
+use rooms::PLACEMENT_ROOM;
+use rooms::ROWS_AREA;
+use rooms::ROWS_ROOM;
+use rooms::TYPES_AREA;
+use rooms::WORDS_AREA;
+use rooms::WORK_ROOM;
 use rules::Planning;
 
-fn plan_line(slack: i64, load: u32, placement: &[u64; 4]) {
+fn plan_line(slack: i64, load: u32, placement: &[u64; PLACEMENT_ROOM]) {
     saying::say(b" slack");
     saying::time(slack);
     saying::phrase(b" load", load as u64, b" marks");
@@ -14,7 +20,7 @@ fn plan_line(slack: i64, load: u32, placement: &[u64; 4]) {
     saying::marks(placement[3]);
 }
 
-fn line(records: bool, answer: Planning, placement: &[u64; 4]) {
+fn line(records: bool, answer: Planning, placement: &[u64; PLACEMENT_ROOM]) {
     saying::storage(records);
     match answer {
         Planning::Refused(r) => saying::refused(r),
@@ -24,16 +30,16 @@ fn line(records: bool, answer: Planning, placement: &[u64; 4]) {
 }
 
 fn in_columns(
-    types: &[u32; 12],
-    rows: &[u32; 1536],
-    due: &[i64; 256],
+    types: &[u32; TYPES_AREA],
+    rows: &[u32; ROWS_AREA],
+    due: &[i64; ROWS_ROOM],
     t: usize,
     n: usize,
-    placement: &mut [u64; 4],
+    placement: &mut [u64; PLACEMENT_ROOM],
 ) -> Planning {
-    let mut loads = [0u32; 768];
-    let mut times = [0i64; 768];
-    let mut words = [0u64; 3072];
+    let mut loads = [0u32; WORK_ROOM];
+    let mut times = [0i64; WORK_ROOM];
+    let mut words = [0u64; WORDS_AREA];
     plan::plan_net(
         types,
         rows,
@@ -48,9 +54,15 @@ fn in_columns(
 }
 
 // Whether both give the same figures and the same placement.
-pub fn alike(types: &[u32; 12], rows: &[u32; 1536], due: &[i64; 256], t: usize, n: usize) -> bool {
-    let mut ours = [0u64; 4];
-    let mut theirs = [0u64; 4];
+pub fn alike(
+    types: &[u32; TYPES_AREA],
+    rows: &[u32; ROWS_AREA],
+    due: &[i64; ROWS_ROOM],
+    t: usize,
+    n: usize,
+) -> bool {
+    let mut ours = [0u64; PLACEMENT_ROOM];
+    let mut theirs = [0u64; PLACEMENT_ROOM];
     let a = in_columns(types, rows, due, t, n, &mut ours);
     let b = held::plan_held(types, rows, due, t, n, &mut theirs);
     line(false, a, &ours);

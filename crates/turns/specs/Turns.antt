@@ -1,14 +1,13 @@
 -- What one turn of each kind of pass makes. Assumes nothing.
 use mathlib.Core.Path.{_≡_}
-use mathlib.Core.Bool.{Bool, true, false, cond}
-use Prim.Native.Nat.{ℕ, zero, suc, _+_, _-_, _*_, _≤_, _<_}
+use mathlib.Core.Bool.{cond}
+use Prim.Native.Nat.{ℕ, _+_, _-_, _<_}
 use lib.Dec.{ltb}
-use lib.IntN.{ℤ}
 use lib.Signed.{ltZ}
 use Rattle.rules.specs.declared.Ohm.{Ohm}
 use Rattle.rules.specs.declared.Femtofarad.{Femtofarad}
 use Rattle.rules.specs.declared.Femtosecond.{Femtosecond}
-use Rattle.rules.specs.Quantities.{_⊖_, mostOhms, mostOwn, workRoom}
+use Rattle.rules.specs.Quantities.{workRoom}
 use Rattle.laws.specs.Joining.{join}
 use Rattle.laws.specs.Steps.{joined}
 use Rattle.laws.specs.Moves.{behind}
@@ -20,7 +19,8 @@ use Rattle.turns.specs.declared.Step.{Step}
 use Rattle.turns.specs.declared.Step.the-variants.{Put, Move, FirstWire, Wire, FirstChoice, Choose, Insert, Shift, Branch}
 use Rattle.turns.specs.declared.Pass.{Pass}
 use Rattle.turns.specs.declared.Turn.{Turn}
-use Rattle.turns.specs.Records.{candOf}
+use Rattle.values.specs.Records.{candOf}
+use Rattle.values.specs.Values.{Wires, Chooses, worthOf}
 
 abbrev pub passOf : Step → (left from with to : ℕ) → Cand → Femtosecond → Pass
 passOf step left from with to held worth = record { step = step; left = left; from = from; with = with; to = to; held = held; worth = worth }
@@ -33,16 +33,6 @@ pub record Here (p : Pass) : Type 0 where
   pub to : p .to < workRoom
 
 -- ---- what a turn needs of what it reads
-pub record Wires (r : Ohm) (c : Femtofarad) (x : Candidate) : Type 0 where
-  pub ohms : r .0 ≤ mostOhms
-  pub fit : Fit x
-  pub made : Fit (behind (wireOf (r .0) (c .0)) x)
-
-pub record Chooses (delay : ℕ) (r : Ohm) (x : Candidate) : Type 0 where
-  pub own : delay ≤ mostOwn
-  pub ohms : r .0 ≤ mostOhms
-  pub fit : Fit x
-
 abbrev pub Can : Step → (x y : Candidate) → Type 0
 Can Put x y = Unit {0}
 Can Move x y = Unit {0}
@@ -71,10 +61,6 @@ Wiring r c p x y t =
     × (t .next ≡ cond (ltZ (y .time .0) (t .put .time .0))
     (passOf (Wire r c) (p .left - 1) (p .from + 1) (p .to) (p .to + 1) (p .held) (p .worth))
     (passOf (Wire r c) (p .left - 1) (p .from + 1) (p .with) (p .to) (p .held) (p .worth)))
-
--- the time of x before a delay
-abbrev pub worthOf : (own : ℕ) → Ohm → Cand → Femtosecond
-worthOf own r x = record { 0 = x .time .0 ⊖ (own + r .0 * x .load .0) }
 
 abbrev pub FirstChoosing : (own : ℕ) → Ohm → Pass → Cand → Turn → Type 0
 FirstChoosing own r p x t = (t .put ≡ x) × (t .next ≡ passOf (Choose own r) (p .left - 1) (p .from + 1) (p .with) (p .to + 1) x (worthOf own r x))

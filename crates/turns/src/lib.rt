@@ -5,11 +5,10 @@ use rules::Femtosecond;
 use rules::Ohm;
 ghost use mathlib.Core.Path.{_≡_};
 ghost use Prim.Native.Nat.{_-_};
-ghost use Rattle.turns.specs.Records.{candOf};
+ghost use Rattle.values.specs.Records.{candOf};
 ghost use Rattle.turns.specs.Turns.{passOf, Here, Can, Turned};
 
 pub mod moving;
-pub mod values;
 pub mod working;
 
 // What a pass does at each turn.

@@ -3,7 +3,6 @@ use crate::Pass;
 use crate::Step;
 use crate::Turn;
 use crate::pass_at;
-use crate::values;
 use rules::Cand;
 use rules::Femtofarad;
 use rules::Ohm;
@@ -11,8 +10,9 @@ ghost use mathlib.Core.Path.{_≡_};
 ghost use mathlib.Core.Bool.{cond};
 ghost use Prim.Native.Nat.{_+_, _-_, _≤_, _<_};
 ghost use lib.Signed.{ltZ};
-ghost use Rattle.turns.specs.Records.{candOf};
-ghost use Rattle.turns.specs.Turns.{Here, Can, Chooses, Wires, FirstWiring, Wiring, FirstChoosing, Choosing, Branching, bothLeft};
+ghost use Rattle.values.specs.Records.{candOf};
+ghost use Rattle.values.specs.Values.{Chooses, Wires};
+ghost use Rattle.turns.specs.Turns.{Here, Can, FirstWiring, Wiring, FirstChoosing, Choosing, Branching, bothLeft};
 
 pub fn first_wire_turn(p: Pass, x: Cand, r: Ohm, c: Femtofarad) -> Turn
     requires { ⌜ Here p ⌝ }

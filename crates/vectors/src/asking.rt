@@ -7,6 +7,8 @@ use cases::places::Place;
 use cases::words::Word;
 use lending::stamps;
 use lending::sums;
+use rooms::ROW_WORDS;
+use rooms::TYPE_WORDS;
 use rules::Checking;
 use rules::Planning;
 use rules::Reading;
@@ -31,7 +33,14 @@ fn read_line(p: Place, answer: Reading, types: &[u32], rows: &[u32], due: &[i64]
             saying::say(b" accepted");
             saying::number(t as u64);
             saying::number(r as u64);
-            sum_line(types, rows, due, 3 * t as usize, 6 * r as usize, r as usize);
+            sum_line(
+                types,
+                rows,
+                due,
+                TYPE_WORDS * t as usize,
+                ROW_WORDS * r as usize,
+                r as usize,
+            );
             places::counted(p, t as usize, r as usize)
         }
     }

@@ -1,22 +1,20 @@
 -- What hangs under a row's parent from that row on, as the links lead to it; and that the room passes along them. Assumes nothing.
-use mathlib.Core.Path.{_≡_, refl, sym, ap, _∙_}
-use mathlib.Core.Bool.{Bool, true, false, not}
-use mathlib.Core.List.{List, [], _∷_}
-use mathlib.Core.Logic.{_≢_, ⊎-elim}
+use mathlib.Core.Path.{_≡_, refl, sym, _∙_}
+use mathlib.Core.Bool.{not}
+use mathlib.Core.List.{List}
 use mathlib.Core.Option.{Option, none, some}
-use Prim.Native.Nat.{ℕ, suc, _+_, _*_, _-_, _≤_, _<_}
+use Prim.Native.Nat.{ℕ, _+_, _*_, _-_, _≤_, _<_}
 use native.Mathlib.Omega.{arith}
-use native.Mathlib.Decide.{ℕ-discrete, decLt}
-use native.Mathlib.Nat.{mul-le-mul-left}
+use native.Mathlib.Decide.{decLt}
 use lib.Dec.{T}
 use lib.ListN.{length, getD}
 use Rattle.rules.specs.declared.Row.{Row}
-use Rattle.rules.specs.Entries.{Repeater, siteCount, rowOf}
+use Rattle.rules.specs.Entries.{Repeater, rowOf}
 use Rattle.rules.specs.Refusals.{isSink}
-use Rattle.rules.specs.Net.{Wire, Tree, wireOf, seen, wired, beside}
+use Rattle.rules.specs.Net.{Wire, Tree, wireOf, wired, beside}
 use Rattle.rules.specs.Pairs.{sitesOn}
 use Rattle.laws.specs.Accepted.{Accepted}
-use Rattle.laws.specs.Rows.{later-at, row-in, rows-two}
+use Rattle.laws.specs.Rows.{later-at}
 use Rattle.laws.specs.Hanging.{OnIf, ProperIf, hangs-parted, seen-distinct, hung-distinct}
 use Rattle.laws.specs.Whole.{tree-at, under-tree}
 use Rattle.laws.specs.Sums.{over}

@@ -1,15 +1,12 @@
 -- What each step of the recursion over the rows needs, and that it makes the list it should. Assumes nothing.
-use mathlib.Core.Path.{_≡_, refl, sym, ap, _∙_, subst}
-use mathlib.Core.Bool.{Bool, true, false, not}
+use mathlib.Core.Path.{_≡_, refl, _∙_, subst}
+use mathlib.Core.Bool.{true, not}
 use mathlib.Core.List.{List, [], _∷_, map}
-use mathlib.Core.Logic.{_⊎_, inl, inr}
 use mathlib.Core.Option.{Option, none, some}
-use Prim.Native.Nat.{ℕ, suc, _+_, _*_, _-_, _≤_, _<_}
+use Prim.Native.Nat.{ℕ, _+_, _*_, _-_, _≤_, _<_}
 use native.Mathlib.Omega.{arith}
-use native.Mathlib.Decide.{decLt}
 use native.Mathlib.Nat.{mul-le-mul, mul-add}
 use lib.Dec.{T}
-use lib.IntN.{ℤ}
 use lib.ListN.{length, getD, set, length-set}
 use lib.Seq.{getD-set-same}
 use Rattle.rules.specs.declared.Kind.{Kind}
@@ -17,35 +14,32 @@ use Rattle.rules.specs.declared.Kind.the-variants.{Driver, Point, Sink}
 use Rattle.rules.specs.declared.Pin.{Pin}
 use Rattle.rules.specs.declared.Row.{Row}
 use Rattle.rules.specs.Lists.{All, Pairwise, nil, cons}
-use Rattle.rules.specs.Quantities.{mostOhms, sitesRoom, workRoom}
-use Rattle.rules.specs.Entries.{Repeater, sitesOf, siteCount}
+use Rattle.rules.specs.Quantities.{sitesRoom, workRoom}
+use Rattle.rules.specs.Entries.{Repeater, siteCount}
 use Rattle.rules.specs.Refusals.{isSink}
-use Rattle.rules.specs.Net.{Wire, Tree, sink, wire, wireOf, seen, wired, beside}
+use Rattle.rules.specs.Net.{Wire, Tree, wire, wireOf, wired, beside}
 use Rattle.rules.specs.Pairs.{sitesOn}
 use Rattle.laws.specs.Integers.{times, hi, lo}
 use Rattle.laws.specs.Lists.{all-map}
-use Rattle.laws.specs.Candidates.{Below, Front}
+use Rattle.laws.specs.Candidates.{Below}
 use Rattle.laws.specs.Joining.{join}
-use Rattle.laws.specs.Steps.{merge, merge-length}
+use Rattle.laws.specs.Steps.{merge}
 use Rattle.laws.specs.Moves.{behind, wireStep}
-use Rattle.laws.specs.Bounds.{wireStep-length}
-use Rattle.laws.specs.Method.{Reaches, behind-reaches}
+use Rattle.laws.specs.Method.{behind-reaches}
 use Rattle.laws.specs.Accepted.{Accepted}
-use Rattle.laws.specs.Rows.{row-in, later-at, sites-few-from}
-use Rattle.laws.specs.Hanging.{hung, ProperIf}
+use Rattle.laws.specs.Rows.{row-in}
+use Rattle.laws.specs.Hanging.{ProperIf}
 use Rattle.laws.specs.Sums.{over}
 use Rattle.laws.specs.Within.{Within, within-row, reached-within}
 use Rattle.laws.specs.Room.{HasRoom}
-use Rattle.laws.specs.Whole.{under-sink, under-tree}
+use Rattle.laws.specs.Whole.{under-sink}
 use Rattle.laws.specs.Walk.{noRow, sitesBefore, sitesBefore-step, sitesBefore-most, under, seenAt, child, Child, child-is, under-end}
-use Rattle.laws.specs.Tabled.{rowAt, rowsFrom, rows-length, repeatersFrom, repeaters-length}
-use Rattle.rows.specs.Links.{Links, row-is}
 use Rattle.columns.specs.Parts.{part, part-nil, part-cons, part-over, part-length, part-less, part-part}
 use Rattle.columns.specs.Run.{Candidate, candidate, blank}
 use Rattle.columns.specs.Made.{Fit, Gives}
 use Rattle.walks.specs.Shown.{Shows, startList, siteList, shows-any, shows-length, shows-fit, shows-seen, shows-alone, shows-beside, shows-wired}
 use Rattle.walks.specs.Made.{Made, Wired, Hang, Sited}
-use Rattle.walks.specs.Links.{from, from-child, from-step, sites-step, room-next, room-seen, room-alone, room-first, seen-some, from-some, seen-proper, seen-within, from-proper, from-within, seen-apart, first-inside}
+use Rattle.walks.specs.Links.{from, from-child, from-step, sites-step, room-seen, room-first, seen-some, from-some, seen-proper, seen-within, from-proper, from-within, seen-apart, first-inside}
 
 -- ---- a list that shows something, as it stands in the run
 module _ {types : List Repeater} {rows : List Row} (ok : Accepted types rows) where

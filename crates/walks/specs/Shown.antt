@@ -1,23 +1,22 @@
 -- A list of the run shows what hangs somewhere: nothing where nothing hangs, else the front of what legal placements reach there. What
 -- each step of the recursion makes of such lists. Assumes nothing.
-use mathlib.Core.Path.{_≡_, refl, sym, ap, _∙_}
+use mathlib.Core.Path.{_≡_, refl}
 use mathlib.Core.Bool.{Bool, true, false}
-use mathlib.Core.List.{List, [], _∷_, map}
+use mathlib.Core.List.{List, [], _∷_}
 use mathlib.Core.Option.{Option, none, some}
-use Prim.Native.Nat.{ℕ, zero, suc, _+_, _*_, _≤_, _<_}
+use Prim.Native.Nat.{ℕ, zero, suc, _+_, _*_, _≤_}
 use native.Mathlib.Omega.{arith}
 use lib.IntN.{ℤ}
 use lib.ListN.{length}
 use Rattle.rules.specs.declared.Kind.{Kind}
 use Rattle.rules.specs.declared.Kind.the-variants.{Driver, Point, Sink}
 use Rattle.rules.specs.declared.Row.{Row}
-use Rattle.rules.specs.Lists.{All, Any, here, there, nil, cons}
+use Rattle.rules.specs.Lists.{All, Any, here, there, nil}
 use Rattle.rules.specs.Entries.{Repeater}
-use Rattle.rules.specs.Placements.{Placement}
-use Rattle.rules.specs.Net.{Wire, Tree, sink, site, wire, both, sited, seen, wired, beside}
-use Rattle.rules.specs.Pairs.{On, sitesOn}
+use Rattle.rules.specs.Net.{Wire, Tree, sink, wire, sited, seen, wired, beside}
+use Rattle.rules.specs.Pairs.{sitesOn}
 use Rattle.laws.specs.Lists.{all-imp}
-use Rattle.laws.specs.Candidates.{Cand, Front}
+use Rattle.laws.specs.Candidates.{Front}
 use Rattle.laws.specs.Thinning.{climbed}
 use Rattle.laws.specs.Steps.{merge}
 use Rattle.laws.specs.Moves.{wireStep, siteStep, typeStep}

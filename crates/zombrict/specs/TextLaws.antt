@@ -13,7 +13,7 @@ use Rattle.rules.specs.declared.Planning.the-variants.{Refused as NotPlanned}
 use Rattle.rules.specs.declared.Listing.{Listing}
 use Rattle.rules.specs.declared.Listing.the-variants.{Refused as NotListed}
 use Rattle.rules.specs.Tables.{Tables}
-use Rattle.rules.specs.Answers.{refused, noTiming, slackFigures, planFigures, listFigures}
+use Rattle.rules.specs.Answers.{slackFigures, planFigures, listFigures}
 use Rattle.rules.specs.Promises.{SlackPromise, PlanPromise, ListPromise, Columns, Lent, columns}
 use Rattle.net.specs.TableSteps.{countsOf}
 use Rattle.zombrict.specs.Texts.{noWork, SlackRead, PlanRead, ListRead}

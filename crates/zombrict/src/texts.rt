@@ -1,19 +1,19 @@
 // The entries for a net as text. Tables and work area are the call's own and stand on the stack, some 45,000 bytes.
+use rooms::PLACEMENT_ROOM;
+use rooms::ROWS_AREA;
+use rooms::ROWS_ROOM;
+use rooms::TYPES_AREA;
+use rooms::WORDS_AREA;
+use rooms::WORK_ROOM;
 use rules::Listing;
 use rules::Planning;
 use rules::Reading;
 use rules::Refusal;
 use rules::Slacking;
 ghost use mathlib.Core.Path.{_≡_};
-ghost use mathlib.Core.Bool.{_||_};
-ghost use lib.Dec.{ltb};
 ghost use Rattle.net.specs.TableSteps.{tablesOf};
 ghost use Rattle.chosen.specs.Chosen.{lentOf};
 ghost use Rattle.zombrict.specs.Texts.{SlackRead, PlanRead, ListRead, CheckTextCall, SlackTextCall, PlanTextCall, ListTextCall};
-
-const PLACEMENT_ROOM: usize = 4;
-
-const LIST_ROOM: usize = 257;
 
 fn wide(x: u32) -> usize
     ensures { λ r. ⌜ r ≡ x ⌝ }
@@ -29,9 +29,9 @@ pub extern "C" fn zombrict_check_text(text: &[u8], answer: &mut [i64]) -> u32
     if answer.len() < answers::room() {
         return answers::short();
     }
-    let mut types = [0u32; 12];
-    let mut rows = [0u32; 1536];
-    let mut due = [0i64; 256];
+    let mut types = [0u32; TYPES_AREA];
+    let mut rows = [0u32; ROWS_AREA];
+    let mut due = [0i64; ROWS_ROOM];
     let a = net::read_net(text, &mut types, &mut rows, &mut due);
     answers::tell_reading(answer, a)
 }
@@ -64,9 +64,9 @@ pub extern "C" fn zombrict_slack_text(text: &[u8], placement: &[u64], answer: &m
     if placement.len() < PLACEMENT_ROOM {
         return answers::tell_refusal(answer, Refusal::Short);
     }
-    let mut types = [0u32; 12];
-    let mut rows = [0u32; 1536];
-    let mut due = [0i64; 256];
+    let mut types = [0u32; TYPES_AREA];
+    let mut rows = [0u32; ROWS_AREA];
+    let mut due = [0i64; ROWS_ROOM];
     let read = net::read_net(text, &mut types, &mut rows, &mut due);
     let a = slack_read(read, &types, &rows, &due, placement);
     answers::tell_slacking(answer, a)
@@ -84,9 +84,9 @@ fn plan_read(
     match read {
         Reading::Refused(r) => Planning::Refused(r),
         Reading::Read { types: t, rows: n } => {
-            let mut loads = [0u32; 768];
-            let mut times = [0i64; 768];
-            let mut words = [0u64; 3072];
+            let mut loads = [0u32; WORK_ROOM];
+            let mut times = [0i64; WORK_ROOM];
+            let mut words = [0u64; WORDS_AREA];
             plan::plan_net(
                 types,
                 rows,
@@ -113,9 +113,9 @@ pub extern "C" fn zombrict_plan_text(text: &[u8], placement: &mut [u64], answer:
     if placement.len() < PLACEMENT_ROOM {
         return answers::tell_refusal(answer, Refusal::Short);
     }
-    let mut types = [0u32; 12];
-    let mut rows = [0u32; 1536];
-    let mut due = [0i64; 256];
+    let mut types = [0u32; TYPES_AREA];
+    let mut rows = [0u32; ROWS_AREA];
+    let mut due = [0i64; ROWS_ROOM];
     let read = net::read_net(text, &mut types, &mut rows, &mut due);
     let a = plan_read(read, &types, &rows, &due, placement);
     answers::tell_planning(answer, a)
@@ -135,9 +135,9 @@ fn list_read(
     match read {
         Reading::Refused(r) => Listing::Refused(r),
         Reading::Read { types: t, rows: n } => {
-            let mut loads = [0u32; 768];
-            let mut times = [0i64; 768];
-            let mut words = [0u64; 3072];
+            let mut loads = [0u32; WORK_ROOM];
+            let mut times = [0i64; WORK_ROOM];
+            let mut words = [0u64; WORDS_AREA];
             plan::list_at(
                 types,
                 rows,
@@ -155,15 +155,6 @@ fn list_read(
     }
 }
 
-fn short_list(loads: usize, times: usize) -> bool
-    ensures { λ r. ⌜ r ≡ (ltb loads 257 || ltb times 257) ⌝ }
-{
-    if loads < LIST_ROOM {
-        return true;
-    }
-    times < LIST_ROOM
-}
-
 // The list of unbeaten pairs at a row of a net given as text. The value answered is its length.
 #[no_mangle]
 pub extern "C" fn zombrict_list_text(
@@ -178,12 +169,12 @@ pub extern "C" fn zombrict_list_text(
     if answer.len() < answers::room() {
         return answers::short();
     }
-    if short_list(list_loads.len(), list_times.len()) {
+    if rooms::short_list(list_loads.len(), list_times.len()) {
         return answers::tell_refusal(answer, Refusal::Short);
     }
-    let mut types = [0u32; 12];
-    let mut rows = [0u32; 1536];
-    let mut due = [0i64; 256];
+    let mut types = [0u32; TYPES_AREA];
+    let mut rows = [0u32; ROWS_AREA];
+    let mut due = [0i64; ROWS_ROOM];
     let read = net::read_net(text, &mut types, &mut rows, &mut due);
     let a = list_read(read, &types, &rows, &due, row, list_loads, list_times);
     answers::tell_listing(answer, a)

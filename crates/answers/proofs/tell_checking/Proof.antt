@@ -1,5 +1,5 @@
 -- `answers::tell_checking` meets its contract: an answer told as it crosses. Assumes nothing.
-use mathlib.Core.Path.{refl, ap, _∙_}
+use mathlib.Core.Path.{refl, ap}
 use borrow.Author.Needs.{needs}
 use Rattle.rules.specs.Answers.{checkFigures}
 use Rattle.answers.specs.Crossing.{words-are, crossed-done, crossed-refused}

@@ -8,13 +8,13 @@ use Rattle.rules.specs.Promises.{zeros}
 use Rattle.held.proofs.blank.Statement.{statement}
 use Rattle.held.proofs.blank.Tie as tie
 
-unmarked-requires : tie.Need-unmarked-requires
-unmarked-requires c κs = search needs
+blank-requires : tie.Need-blank-requires
+blank-requires c κs = search needs
 
 returns : tie.Need-returns
 returns c =
-    let none : c .unmarked .result ≡ zeros = c .unmarked .ensures in
+    let none : c .blank .result ≡ zeros = c .blank .ensures in
     ap (λ (z : Cand). replicate workRoom z) none
 
 pub blank-spec : {M : Type 1} → statement M
-blank-spec = tie.close (tie.spec unmarked-requires returns)
+blank-spec = tie.close (tie.spec blank-requires returns)

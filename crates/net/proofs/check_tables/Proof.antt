@@ -7,21 +7,21 @@ use borrow.Author.Needs.{needs}
 use Rattle.net.proofs.check_tables.Statement.{statement}
 use Rattle.net.proofs.check_tables.Tie as tie
 
-short-areas-requires : tie.Need-short-areas-requires
-short-areas-requires c κs = search needs
+short-tables-requires : tie.Need-short-tables-requires
+short-tables-requires c κs = search needs
 
 returns : tie.Need-returns
-returns c = short-checked (c .before .before .before .before .args .short) (c .before .before .before .before .args .types .now) (c .before .before .before .before .args .rows .now) (c .before .before .before .before .args .due .now) (countsOf (c .before .before .before .before .args .type-count) (c .before .before .before .before .args .row-count)) (c .before .short-areas .result) (c .before .short-areas .ensures) (c .if1 .taken)
+returns c = short-checked (c .before .before .before .before .args .short) (c .before .before .before .before .args .types .now) (c .before .before .before .before .args .rows .now) (c .before .before .before .before .args .due .now) (countsOf (c .before .before .before .before .args .type-count) (c .before .before .before .before .args .row-count)) (c .before .short-tables .result) (c .before .short-tables .ensures) (c .if1 .taken)
 
 returns-2 : tie.Need-returns-2
-returns-2 c = own-checked (c .before .before .before .before .before .args .short) (c .before .before .before .before .before .args .types .now) (c .before .before .before .before .before .args .rows .now) (c .before .before .before .before .before .args .due .now) (countsOf (c .before .before .before .before .before .args .type-count) (c .before .before .before .before .before .args .row-count)) (c .before .before .short-areas .result) (c .before .before .short-areas .ensures) (c .before .if1 .left) (c .if2 .taken)
+returns-2 c = own-checked (c .before .before .before .before .before .args .short) (c .before .before .before .before .before .args .types .now) (c .before .before .before .before .before .args .rows .now) (c .before .before .before .before .before .args .due .now) (countsOf (c .before .before .before .before .before .args .type-count) (c .before .before .before .before .before .args .row-count)) (c .before .before .short-tables .result) (c .before .before .short-tables .ensures) (c .before .if1 .left) (c .if2 .taken)
 
 take-net-requires : tie.Need-take-net-requires
-take-net-requires c κs = rooms-are [] (c .before .before .before .before .before .args .types .now) (c .before .before .before .before .before .args .rows .now) (c .before .before .before .before .before .args .due .now) (c .before .before .short-areas .result) (c .before .before .short-areas .ensures) (c .before .if1 .left)
+take-net-requires c κs = rooms-are [] (c .before .before .before .before .before .args .types .now) (c .before .before .before .before .before .args .rows .now) (c .before .before .before .before .before .args .due .now) (c .before .before .short-tables .result) (c .before .before .short-tables .ensures) (c .before .if1 .left)
 
 returns-3 : tie.Need-returns-3
-returns-3 c = net-checked (c .before .before .before .before .before .before .args .short) (c .before .before .before .before .before .before .args .types .now) (c .before .before .before .before .before .before .args .rows .now) (c .before .before .before .before .before .before .args .due .now) (countsOf (c .before .before .before .before .before .before .args .type-count) (c .before .before .before .before .before .before .args .row-count)) (c .before .before .before .short-areas .result) (c .before .before .before .short-areas .ensures) (c .take-net .result) (c .before .before .if1 .left) (c .before .if2 .left) (c .take-net .ensures)
+returns-3 c = net-checked (c .before .before .before .before .before .before .args .short) (c .before .before .before .before .before .before .args .types .now) (c .before .before .before .before .before .before .args .rows .now) (c .before .before .before .before .before .before .args .due .now) (countsOf (c .before .before .before .before .before .before .args .type-count) (c .before .before .before .before .before .before .args .row-count)) (c .before .before .before .short-tables .result) (c .before .before .before .short-tables .ensures) (c .take-net .result) (c .before .before .if1 .left) (c .before .if2 .left) (c .take-net .ensures)
 
 pub check-tables-spec : {M : Type 1} → statement M
 check-tables-spec =
-    tie.close (tie.spec short-areas-requires returns returns-2 take-net-requires returns-3)
+    tie.close (tie.spec short-tables-requires returns returns-2 take-net-requires returns-3)

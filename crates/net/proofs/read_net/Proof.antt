@@ -5,14 +5,14 @@ use borrow.Author.Needs.{needs}
 use Rattle.net.proofs.read_net.Statement.{statement}
 use Rattle.net.proofs.read_net.Tie as tie
 
-short-areas-requires : tie.Need-short-areas-requires
-short-areas-requires c κs = search needs
+short-tables-requires : tie.Need-short-tables-requires
+short-tables-requires c κs = search needs
 
 returns : tie.Need-returns
-returns c = short-read (c .before .before .before .before .before .args .text .now) (c .before .before .before .before .before .args .types .now) (c .before .before .before .before .before .args .rows .now) (c .before .before .before .before .before .args .due .now) (c .before .short-areas .result) (c .before .short-areas .ensures) (c .if1 .taken)
+returns c = short-read (c .before .before .before .before .before .args .text .now) (c .before .before .before .before .before .args .types .now) (c .before .before .before .before .before .args .rows .now) (c .before .before .before .before .before .args .due .now) (c .before .short-tables .result) (c .before .short-tables .ensures) (c .if1 .taken)
 
 returns-2 : tie.Need-returns-2
-returns-2 c = long-read (c .before .before .before .before .before .before .args .text .now) (c .before .before .before .before .before .before .args .types .now) (c .before .before .before .before .before .before .args .rows .now) (c .before .before .before .before .before .before .args .due .now) (c .before .before .short-areas .result) (c .before .before .short-areas .ensures) (c .before .if1 .left) (c .if2 .taken)
+returns-2 c = long-read (c .before .before .before .before .before .before .args .text .now) (c .before .before .before .before .before .before .args .types .now) (c .before .before .before .before .before .before .args .rows .now) (c .before .before .before .before .before .before .args .due .now) (c .before .before .short-tables .result) (c .before .before .short-tables .ensures) (c .before .if1 .left) (c .if2 .taken)
 
 slice-aggregate-read-into : tie.Need-slice-aggregate-read-into
 slice-aggregate-read-into c = search needs
@@ -24,7 +24,7 @@ slice-aggregate-read-into-3 : tie.Need-slice-aggregate-read-into-3
 slice-aggregate-read-into-3 c = search needs
 
 read-into-requires : tie.Need-read-into-requires
-read-into-requires c κs = (record { types-room = omega arith; rows-room = omega arith; due-room = omega arith }, rooms-are (c .before .before .before .before .before .before .before .before .before .before .before .before .args .text .now) (c .before .before .before .before .before .before .before .before .before .before .before .before .args .types .now) (c .before .before .before .before .before .before .before .before .before .before .before .before .args .rows .now) (c .before .before .before .before .before .before .before .before .before .before .before .before .args .due .now) (c .before .before .before .before .before .before .before .before .short-areas .result) (c .before .before .before .before .before .before .before .before .short-areas .ensures) (c .before .before .before .before .before .before .before .if1 .left))
+read-into-requires c κs = (record { types-room = omega arith; rows-room = omega arith; due-room = omega arith }, rooms-are (c .before .before .before .before .before .before .before .before .before .before .before .before .args .text .now) (c .before .before .before .before .before .before .before .before .before .before .before .before .args .types .now) (c .before .before .before .before .before .before .before .before .before .before .before .before .args .rows .now) (c .before .before .before .before .before .before .before .before .before .before .before .before .args .due .now) (c .before .before .before .before .before .before .before .before .short-tables .result) (c .before .before .before .before .before .before .before .before .short-tables .ensures) (c .before .before .before .before .before .before .before .if1 .left))
 
 same-length : tie.Need-same-length
 same-length c = search needs
@@ -36,13 +36,13 @@ same-length-3 : tie.Need-same-length-3
 same-length-3 c = search needs
 
 returns-3 : tie.Need-returns-3
-returns-3 c = lines-read (c .before .before .before .before .before .before .before .before .before .before .before .before .before .before .before .before .before .before .before .before .before .args .text .now) (c .before .before .before .before .before .before .before .before .before .before .before .before .before .before .before .before .before .before .before .before .before .args .types .now) (c .before .before .before .before .before .before .before .before .before .before .before .before .before .before .before .before .before .before .before .before .before .args .rows .now) (c .before .before .before .before .before .before .before .before .before .before .before .before .before .before .before .before .before .before .before .before .before .args .due .now) (c .before .before .before .before .before .before .before .before .before .before .before .before .before .before .before .before .before .short-areas .result) (c .before .before .before .before .before .before .before .before .read-into .result) _ (c .before .before .before .before .before .before .before .before .before .before .before .before .before .before .before .before .before .short-areas .ensures) (c .before .before .before .before .before .before .before .before .before .before .before .before .before .before .before .before .if1 .left) (c .before .before .before .before .before .before .before .before .before .before .before .before .before .before .before .if2 .left) (c .before .before .before .before .before .before .before .before .read-into .ensures)
+returns-3 c = lines-read (c .before .before .before .before .before .before .before .before .before .before .before .before .before .before .before .before .before .before .before .before .before .args .text .now) (c .before .before .before .before .before .before .before .before .before .before .before .before .before .before .before .before .before .before .before .before .before .args .types .now) (c .before .before .before .before .before .before .before .before .before .before .before .before .before .before .before .before .before .before .before .before .before .args .rows .now) (c .before .before .before .before .before .before .before .before .before .before .before .before .before .before .before .before .before .before .before .before .before .args .due .now) (c .before .before .before .before .before .before .before .before .before .before .before .before .before .before .before .before .before .short-tables .result) (c .before .before .before .before .before .before .before .before .read-into .result) _ (c .before .before .before .before .before .before .before .before .before .before .before .before .before .before .before .before .before .short-tables .ensures) (c .before .before .before .before .before .before .before .before .before .before .before .before .before .before .before .before .if1 .left) (c .before .before .before .before .before .before .before .before .before .before .before .before .before .before .before .if2 .left) (c .before .before .before .before .before .before .before .before .read-into .ensures)
 
 pub read-net-spec : {M : Type 1} → statement M
 read-net-spec =
     tie.close
     (tie.spec
-    short-areas-requires
+    short-tables-requires
     returns
     returns-2
     slice-aggregate-read-into

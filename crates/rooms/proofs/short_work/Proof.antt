@@ -1,6 +1,5 @@
 -- `rooms::short_work` meets its contract. Assumes nothing.
 use borrow.Author.Tests.{lt-ltb, le-ltb}
-use borrow.Author.Needs.{needs}
 use Rattle.rooms.proofs.short_work.Statement.{statement}
 use Rattle.rooms.proofs.short_work.Tie as tie
 
@@ -10,11 +9,8 @@ returns c = simp (lt-ltb _ _ (c .if1 .taken))
 returns-2 : tie.Need-returns-2
 returns-2 c = simp (le-ltb _ _ (c .before .if1 .left), lt-ltb _ _ (c .if2 .taken))
 
-mul-result : tie.Need-mul-result
-mul-result c = search needs
-
 returns-3 : tie.Need-returns-3
 returns-3 c = simp (le-ltb _ _ (c .before .if1 .left), le-ltb _ _ (c .if2 .left))
 
 pub short-work-spec : {M : Type 1} → statement M
-short-work-spec = tie.close (tie.spec returns returns-2 mul-result returns-3)
+short-work-spec = tie.close (tie.spec returns returns-2 returns-3)

@@ -8,10 +8,6 @@ use lib.ListN.{length-set}
 use mathlib.Core.Path.{sym, _∙_}
 use Rattle.rows.proofs.count_sites.Statement.{statement}
 use Rattle.rows.proofs.count_sites.Tie as tie
-use Rattle.rows.proofs.count_sites.Reads as reads
-use Rattle.rows.proofs.next_site.Reads as next-site-reads
-use Rattle.rows.proofs.place.Reads as place-reads
-use Rattle.rows.proofs.row_at.Reads as row-at-reads
 
 abbrev Inv-loop : tie.InvT-loop
 Inv-loop rows due n links₀ i₀ k₀ links i k = (i ≤ n) × Counting (rowsFrom rows due 0 n) links i k

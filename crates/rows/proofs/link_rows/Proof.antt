@@ -9,9 +9,6 @@ use Rattle.rows.specs.Links.{Linking, linking-start, linking-step, links
 use Rattle.laws.specs.Walk.{noRow}
 use Rattle.rows.proofs.link_rows.Statement.{statement}
 use Rattle.rows.proofs.link_rows.Tie as tie
-use Rattle.rows.proofs.link_rows.Reads as reads
-use Rattle.rows.proofs.place.Reads as place-reads
-use Rattle.rows.proofs.row_at.Reads as row-at-reads
 
 abbrev Inv-loop : tie.InvT-loop
 Inv-loop rows due n links₀ i₀ links i = (i ≤ n) × Linking (rowsFrom rows due 0 n) links i

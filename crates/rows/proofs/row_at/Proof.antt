@@ -10,8 +10,6 @@ use Rattle.laws.specs.Tabled.{rowAt}
 use borrow.Author.Needs.{needs}
 use Rattle.rows.proofs.row_at.Statement.{statement}
 use Rattle.rows.proofs.row_at.Tie as tie
-use Rattle.rows.proofs.row_at.Reads as reads
-use Rattle.rows.proofs.kind_of.Reads as kind-of-reads
 
 mul-at : tie.Need-mul-at
 mul-at c = search needs

@@ -4,8 +4,6 @@ use Rattle.laws.specs.Tabled.{repeaterAt}
 use borrow.Author.Needs.{needs}
 use Rattle.rows.proofs.type_at.Statement.{statement}
 use Rattle.rows.proofs.type_at.Tie as tie
-use Rattle.rows.proofs.type_at.Reads as reads
-use Rattle.units.proofs.time_of.Reads as time-of-reads
 
 mul-at : tie.Need-mul-at
 mul-at c = search needs

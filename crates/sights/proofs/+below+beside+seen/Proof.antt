@@ -2,7 +2,7 @@
 mod Below
 mod Beside
 mod Seen
-use Prim.Native.Nat.{ℕ, _<_, _*_, _+_, _-_}
+use Prim.Native.Nat.{_<_, _*_, _+_, _-_}
 use lib.WfN.{Nat·lt-wfRel}
 use contract.Running.{givenOf, tables, tablesOf}
 use denote.Triple.Table.{cited}

@@ -1,6 +1,6 @@
 -- `slack::timing` meets its contract. Assumes nothing.
 use mathlib.Core.Path.{ap₂, _∙_}
-use Rattle.slack.specs.Hung.{slackHung}
+use Rattle.upward.specs.Hung.{slackHung}
 use Rattle.slack.specs.Ready.{driver-needs}
 use borrow.Author.Needs.{needs}
 use Rattle.slack.proofs.timing.Statement.{statement}

@@ -14,7 +14,7 @@ use Rattle.columns.specs.Made.{Room, room-run}
 use Rattle.columns.specs.Run.{run}
 use Rattle.walks.specs.Made.{Made, Driven, Kept}
 use Rattle.walks.specs.Steps.{room-kept}
-use Rattle.walks.specs.Spine.{Spine, here}
+use Rattle.walks.specs.Spine.{Spine}
 use Rattle.walks.specs.Upward.{Siblings, made-since, made-here, siblings-here, driven-here}
 use Rattle.walks.specs.Code.{typed, row-there, ohms-in, rising, way-inside, way-after, way-room, start-fits, started, driven-sited, site-made, above, under-made, wire-ready, wire-made, sibling-inside, siblings-made, sibling-more, sibling-less, sibling-after, sibling-room, sibling-hang, sibling-made}
 use borrow.Fn.Kinds.{In}

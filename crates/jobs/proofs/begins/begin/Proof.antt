@@ -1,5 +1,5 @@
 -- `jobs::begins::begin` meets its contract. Assumes nothing.
-use Rattle.jobs.specs.Jobs.{beginOf, Ended}
+use Rattle.jobs.specs.Jobs.{beginOf}
 use borrow.Author.Tests.{lt-ltb, le-ltb}
 use borrow.Author.Needs.{needs}
 use Rattle.jobs.proofs.begins.begin.Statement.{statement}

@@ -16,8 +16,8 @@ sites-requires c κs = search needs
 pin-of-requires : tie.Need-pin-of-requires
 pin-of-requires c κs = search needs
 
-is-pin-requires : tie.Need-is-pin-requires
-is-pin-requires c κs = search needs
+is-sink-requires : tie.Need-is-sink-requires
+is-sink-requires c κs = search needs
 
 blank-requires : tie.Need-blank-requires
 blank-requires c κs = search needs
@@ -29,7 +29,7 @@ add-t18 : tie.Need-add-t18
 add-t18 c = record { fits = let h = c .before .before .before .sites .ensures .0 in let g = c .before .before .before .before .before .before .before .before .before .before .pre .1 in omega arith }
 
 returns : tie.Need-returns
-returns c = rw (c .before .before .before .sites .ensures .1, c .before .before .before .before .before .before .sites-before .ensures, c .before .is-pin .ensures, c .before .before .pin-of .ensures, c .blank .ensures, c .before .before .before .before .before .before .before .row-at .ensures)
+returns c = rw (c .before .before .before .sites .ensures .1, c .before .before .before .before .before .before .sites-before .ensures, c .before .is-sink .ensures, c .before .before .pin-of .ensures, c .blank .ensures, c .before .before .before .before .before .before .before .row-at .ensures)
 
 pub site-job-spec : {M : Type 1} → statement M
 site-job-spec =
@@ -39,7 +39,7 @@ site-job-spec =
     sites-before-requires
     sites-requires
     pin-of-requires
-    is-pin-requires
+    is-sink-requires
     blank-requires
     add-t17
     add-t18

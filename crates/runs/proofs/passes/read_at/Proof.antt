@@ -1,6 +1,6 @@
 -- `runs::passes::read_at` meets its contract: a walk of its MIR, by hand. The slice is looked into, and the record is taken out of the row,
 -- read and put back. Assumes nothing.
-use mathlib.Core.Path.{_≡_, refl, sym}
+use mathlib.Core.Path.{refl, sym}
 use Prim.Native.Nat.{ℕ, _<_, _^_, _*_}
 use native.Mathlib.Omega.{arith}
 use mathlib.Core.List.{List, [], _∷_}

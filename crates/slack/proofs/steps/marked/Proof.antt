@@ -1,7 +1,8 @@
 -- `slack::steps::marked` meets its contract. Assumes nothing.
 use mathlib.Core.Path.{sym, _∙_}
 use native.Mathlib.Omega.{arith}
-use Rattle.slack.specs.Hung.{markHung, mark-type, buffer-in}
+use Rattle.upward.specs.Hung.{buffer-in}
+use Rattle.slack.specs.Hung.{markHung, mark-type}
 use borrow.Author.Needs.{needs}
 use Rattle.slack.proofs.steps.marked.Statement.{statement}
 use Rattle.slack.proofs.steps.marked.Tie as tie

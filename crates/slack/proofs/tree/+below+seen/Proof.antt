@@ -17,10 +17,10 @@ use Rattle.rows.proofs.row_at.Reads as row-at-reads
 use Rattle.rows.proofs.first_below.Reads as first-below-reads
 use Rattle.rows.proofs.next_beside.Reads as next-beside-reads
 use Rattle.rows.proofs.sites_before.Reads as sites-before-reads
-use Rattle.slack.proofs.steps.behind_wire.Reads as behind-wire-reads
-use Rattle.slack.proofs.steps.beside.Reads as beside-reads
+use Rattle.upward.proofs.behind_wire.Reads as behind-wire-reads
+use Rattle.upward.proofs.beside.Reads as beside-reads
 use Rattle.slack.proofs.steps.sited.Reads as sited-reads
-use Rattle.slack.proofs.steps.started.Reads as started-reads
+use Rattle.upward.proofs.started.Reads as started-reads
 use Rattle.slack.proofs.tree.+below+seen.{statement}
 use Rattle.slack.proofs.tree.+below+seen.Tie.{close}
 

@@ -1,6 +1,6 @@
 -- `turns::moving::insert_turn` meets its contract. Assumes nothing.
 use borrow.Author.Tests.{lt-ltb, le-ltb}
-use mathlib.Core.Path.{_≡_, refl, sym, ap, _∙_}
+use mathlib.Core.Path.{sym, _∙_}
 use borrow.Author.Needs.{needs}
 use Rattle.turns.proofs.moving.insert_turn.Statement.{statement}
 use Rattle.turns.proofs.moving.insert_turn.Tie as tie

@@ -1,6 +1,5 @@
 -- `turns::working::branch_turn` meets its contract. Assumes nothing.
 use native.Mathlib.Omega.{arith}
-use mathlib.Core.Path.{_≡_, refl, sym, ap, _∙_}
 use borrow.Author.Needs.{needs}
 use Rattle.turns.proofs.working.branch_turn.Statement.{statement}
 use Rattle.turns.proofs.working.branch_turn.Tie as tie

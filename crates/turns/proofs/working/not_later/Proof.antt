@@ -1,6 +1,6 @@
 -- `turns::working::not_later` meets its contract. Assumes nothing.
 use native.Mathlib.Omega.{arith}
-use mathlib.Core.Path.{_≡_, refl, sym, ap, _∙_}
+use mathlib.Core.Path.{sym, _∙_}
 use borrow.Author.Needs.{needs}
 use Rattle.turns.proofs.working.not_later.Statement.{statement}
 use Rattle.turns.proofs.working.not_later.Tie as tie

@@ -1,5 +1,5 @@
 -- `turns::working::wire_turn` meets its contract. Assumes nothing.
-use mathlib.Core.Path.{_≡_, refl, sym, ap, _∙_}
+use mathlib.Core.Path.{_≡_, sym, _∙_}
 use lib.Signed.{ltZ}
 use borrow.Author.Needs.{needs}
 use Rattle.turns.proofs.working.wire_turn.Statement.{statement}
