@@ -17,7 +17,7 @@ use Rattle.rules.proofs.Cand.Laws as T′
 use Rattle.rules.specs.Quantities.{workRoom}
 use Rattle.rules.specs.Promises.{PlanPromise, ListPromise, records, zeros}
 use Rattle.laws.specs.Checked.{tablesOf as netOf, countsOf}
-use Rattle.chosen.specs.Chosen.{lentOf}
+use Rattle.chosen.specs.Lent.{lentOf}
 use Rattle.held.specs.Held.{blankRun, plan-held, list-held}
 use lib.ListN.{replicate}
 """ + ENUM_USES + LIST_USES

@@ -19,13 +19,13 @@ FIELDS = {
 }
 TYPE_USES = """use Rattle.rules.specs.declared.Cand.{Cand}
 use Rattle.turns.specs.declared.Pass.{Pass}
-use Rattle.jobs.specs.declared.Job.{Job}
+use Rattle.stages.specs.declared.Job.{Job}
 use Rattle.rules.proofs.Cand as T
 use Rattle.rules.proofs.Cand.Laws as T′
 use Rattle.turns.proofs.Pass as P
 use Rattle.turns.proofs.Pass.Laws as P′
-use Rattle.jobs.proofs.Job as J
-use Rattle.jobs.proofs.Job.Laws as J′
+use Rattle.stages.proofs.Job as J
+use Rattle.stages.proofs.Job.Laws as J′
 """
 SPECS = "Rattle.jobs.specs."
 JOBS = Crate("jobs", "jobs.py", TYPES, TYPE_USES, FIELDS)
@@ -41,8 +41,8 @@ HANG_PRE = "RowIn rows due links c × Able types (hangAt rows due links n c low 
 HANG_POST = "Worked types (hangAt rows due links n c low waits own) run {} r"
 TABLES = ROWS + [("types", "shr u32"), ("links", "shr u16")]
 CALLEES = [
-    JOBS.callee("jobs::begins::begin", [("types", "shr u32"), ("j", "Job")], "Pass", "r ≡ beginOf types j", "Inside types j"),
-    JOBS.callee("jobs::ends::end", [("types", "shr u32"), ("j", "Job"), ("e", "Pass")], "Job", "Ended types j e r", "Inside types j × Ends j e"),
+    JOBS.callee("stages::begins::begin", [("types", "shr u32"), ("j", "Job")], "Pass", "r ≡ beginOf types j", "Inside types j"),
+    JOBS.callee("stages::ends::end", [("types", "shr u32"), ("j", "Job"), ("e", "Pass")], "Job", "Ended types j e r", "Inside types j × Ends j e"),
     JOBS.callee("jobs::work", RUN + [("types", "shr u32"), ("j", "Job")], "usize", "Worked types j run zs r", "Able types j run"),
     JOBS.callee("jobs::making::site_job", ROWS + [("links", "shr u16")] + SITE, "Job", "r ≡ siteAt rows due links count c at own", "RowIn rows due links c × (count ≤ 4)"),
     JOBS.callee("jobs::making::hang_job", ROWS + [("links", "shr u16")] + HANGS, "Job", "r ≡ hangAt rows due links n c low waits own", "RowIn rows due links c"),
@@ -82,7 +82,7 @@ def job_then_work(mir, path, params, pre, post, asks, able, def_):
 
 if __name__ == "__main__":
     mir = parse(open(sys.argv[1]).read())
-    use = TYPE_USES + f"use {SPECS}Jobs.{{Inside, Ends, beginOf, Ended, Able, Worked, RowIn, siteAt, hangAt}}\nuse Rattle.runs.proofs.Lending.{{at-list, Slice, Sent, Back}}\n"
+    use = TYPE_USES + f"use Rattle.stages.specs.Stages.{{Inside, Ends, beginOf, Ended}}\nuse {SPECS}Jobs.{{Able, Worked, RowIn, siteAt, hangAt}}\nuse Rattle.runs.proofs.Lending.{{at-list, Slice, Sent, Back}}\n"
     JOBS.package("JobCalls", "on jobs", use, CALLEES)
     work(mir)
     job_then_work(mir, "jobs::site", SITE, SITE_PRE, SITE_POST, "(pre .0, pre .1 .0)", "pre .1 .1", "siteAt")

@@ -154,7 +154,7 @@ def list_records(mir):
     base = "(t-types .now) (t-rows .now) (t-due .now) tc rc row ys-lls ys-lts ys-work r₁ (is₁ .1 .1)"
     straight(w, [f"list-asks {base}", "got₂ .1 .1 .1 .few"],
              f"exits r₃ (x₂ .1 .1 .0) (x₂ .1 .1 .1) (x₂ .1 .0) (is₃ .1 .0) (got₂ .0 .1 .0) (got₂ .0 .1 .1) (got₂ .0 .0) (list-done {base} (x₂ .1 .0) (x₂ .1 .1 .0) (x₂ .1 .1 .1) (x₂ .0) (got₂ .1 .1 .1) r₃ (is₃ .1 .1))")
-    plain(w, MANY_USES + ENUM_USES + LIST_USES + f"use Rattle.rules.specs.Promises.{{ListPromise, records}}\nuse Rattle.laws.specs.Checked.{{tablesOf as netOf, countsOf}}\nuse Rattle.chosen.specs.Chosen.{{lentOf}}\nuse {SPECS}Listed.{{list-asks, list-done}}\n")
+    plain(w, MANY_USES + ENUM_USES + LIST_USES + f"use Rattle.rules.specs.Promises.{{ListPromise, records}}\nuse Rattle.laws.specs.Checked.{{tablesOf as netOf, countsOf}}\nuse Rattle.chosen.specs.Lent.{{lentOf}}\nuse {SPECS}Listed.{{list-asks, list-done}}\n")
 
 
 if __name__ == "__main__":

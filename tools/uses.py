@@ -31,10 +31,9 @@ def used(text):
     words.update(line.split("use ")[1].split("::")[0] for line in lines if line.startswith("use ") and "::" in line)
 
     def has(name):
-        parts = [part for part in name.split("_") if part]
-        if "_" in name and not re.search(r"\w", name.replace("_", "")) or not re.search(r"\w", name):
-            return all(part in body for part in parts)
-        return name in words or "_" in name and all(part in body for part in parts)
+        if name == "[]":
+            return name in body
+        return name in words or "_" in name and all(part in words for part in name.split("_") if part)
 
     kept = []
     for line in lines:

@@ -1,2 +1,2 @@
-pub mod Chosen
+pub mod Lent
 pub mod Promised

@@ -4,7 +4,7 @@ use mathlib.Core.Path.{_≡_, refl, sym, ap, subst, _∙_}
 use mathlib.Core.Bool.{false}
 use mathlib.Core.List.{List, [], _∷_, _++_, map, append-nil}
 use mathlib.Core.Option.{some}
-use Prim.Native.Nat.{ℕ, zero, suc, _+_, _*_, _-_, _≤_, _<_}
+use Prim.Native.Nat.{ℕ, zero, suc, _+_, _*_, _≤_, _<_}
 use native.Mathlib.Omega.{arith}
 use native.Mathlib.Nat.{mul-le-mul}
 use lib.Dec.{ltb}
@@ -43,7 +43,8 @@ use Rattle.columns.specs.Made.{Room, Stand}
 use Rattle.walks.specs.Shown.{shows-some, shows-fit}
 use Rattle.walks.specs.Made.{Made}
 use Rattle.rooms.specs.Rooms.{shortBy, shortListBy}
-use Rattle.chosen.specs.Chosen.{columnsOf, Ready, Choice}
+use Rattle.picked.specs.Picked.{Ready, Choice}
+use Rattle.chosen.specs.Lent.{columnsOf}
 
 abbrev pub entriesOf : (types rows : List ℕ) (due : List ℤ) (count n : ℕ) → List Entry
 entriesOf types rows due count n = tableEntries (tablesOf types rows due) (countsOf count n)

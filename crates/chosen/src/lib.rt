@@ -1,11 +1,8 @@
 // What is chosen of the list at a row, in a work area of exactly its room: a placement at the driver, or the list itself.
+use picked::Timing;
 use rooms::WORK_ROOM;
-use rules::Femtofarad;
-use rules::Femtosecond;
-ghost use mathlib.Core.Path.{_≡_};
-ghost use Prim.Native.Nat.{_+_, _*_, _≤_, _<_};
+ghost use Prim.Native.Nat.{_≤_, _<_};
 ghost use lib.ListN.{length};
-ghost use Rattle.rules.specs.Lists.{written};
 ghost use Rattle.rules.specs.Quantities.{placementRoom, listRoom};
 ghost use Rattle.rules.specs.Promises.{PlanOf, ListOf};
 ghost use Rattle.laws.specs.Walk.{seenAt};
@@ -15,13 +12,7 @@ ghost use Rattle.columns.specs.Run.{run};
 ghost use Rattle.columns.specs.Made.{Room};
 ghost use Rattle.walks.specs.Made.{Made};
 ghost use Rattle.chosen.specs.Promised.{entriesOf, timingOf, Exact, Zeroed};
-ghost use Rattle.chosen.specs.Chosen.{lentOf, fourAt, Ready, Choice};
-
-// The slack of the placement chosen, and the load on the driver.
-pub struct Timing {
-    pub slack: Femtosecond,
-    pub load: Femtofarad,
-}
+ghost use Rattle.chosen.specs.Lent.{lentOf};
 
 // The list at a row, made at the start of the work area.
 fn make(
@@ -57,43 +48,6 @@ fn make(
     )
 }
 
-// The four words of candidate b, put at the start of a placement.
-fn put_placement(words: &[u64], b: usize, placement: &mut [u64])
-    requires { ⌜ (4 * b + 4 ≤ length (now words)) × (placementRoom ≤ length (now placement)) ⌝ }
-    ensures { λ _. ⌜ now (placement .exit) ≡ written (fourAt (now (words .entry)) b) (now (placement .entry)) ⌝ }
-{
-    let at = 4 * b;
-    placement[0] = words[at];
-    placement[1] = words[at + 1];
-    placement[2] = words[at + 2];
-    placement[3] = words[at + 3];
-}
-
-// Of the list at the driver the first greatest behind the driver, its placement put down.
-fn choose(
-    rows: &[u32],
-    due: &[i64],
-    loads: &[u32],
-    times: &[i64],
-    words: &[u64],
-    len: usize,
-    placement: &mut [u64],
-) -> Timing
-    requires { ⌜ Ready (now rows) (now due) (now loads) (now times) (now words) len (now placement) ⌝ }
-    ensures { λ r. ⌜ Choice (now (rows .entry)) (now (due .entry)) (run (now (loads .entry)) (now (times .entry)) (now (words .entry))) len (now (placement .entry)) (now (placement .exit)) (r .slack .0) (r .load .0) ⌝ }
-{
-    let driver = rows::row_at(rows, due, 0);
-    let r = driver.resistance;
-    let best = columns::choices::best_at(loads, times, 0, len, r);
-    let b = best.at;
-    let slack = best.value;
-    put_placement(words, b, placement);
-    Timing {
-        slack,
-        load: Femtofarad(loads[b]),
-    }
-}
-
 // In a work area of exactly its room: the list at the driver, the placement chosen of it, and the area left all zero.
 pub fn plan_in(
     types: &[u32],
@@ -112,7 +66,7 @@ pub fn plan_in(
     ensures cleared { λ r. ⌜ Zeroed (now (loads .exit)) (now (times .exit)) (now (words .exit)) ⌝ }
 {
     let len = make(types, rows, due, count, n, loads, times, words, 0);
-    let t = choose(rows, due, loads, times, words, len, placement);
+    let t = picked::choose(rows, due, loads, times, words, len, placement);
     clearing::clear(loads, times, words, WORK_ROOM);
     t
 }

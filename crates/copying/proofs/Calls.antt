@@ -1,7 +1,7 @@
 -- What a walk knows of the functions that copy a list, from their contracts alone. Written by tools/copying.py.
 -- Assumes `Given`.
 use mathlib.Core.Path.{_≡_, refl, _∙_, ap}
-use Prim.Native.Nat.{ℕ, _<_, _≤_, _^_, _-_}
+use Prim.Native.Nat.{ℕ, _<_, _≤_, _^_}
 use mathlib.Core.List.{List, [], _∷_}
 use lib.IntN.{ℤ}
 use lib.ListN.{length}

@@ -1,7 +1,7 @@
 -- What a walk knows of the functions that it calls, from their contracts alone. Written by tools/held.py.
 -- Assumes `Given`.
 use mathlib.Core.Path.{_≡_, refl, _∙_, ap, subst}
-use Prim.Native.Nat.{ℕ, _<_, _^_, _-_}
+use Prim.Native.Nat.{ℕ, _<_, _^_}
 use mathlib.Core.List.{List, [], _∷_}
 use lib.IntN.{ℤ}
 use lib.ListN.{length}
@@ -33,7 +33,7 @@ use Rattle.rules.proofs.Cand as T
 use Rattle.rules.specs.Quantities.{workRoom}
 use Rattle.rules.specs.Promises.{PlanPromise, ListPromise, records, zeros}
 use Rattle.laws.specs.Checked.{tablesOf as netOf, countsOf}
-use Rattle.chosen.specs.Chosen.{lentOf}
+use Rattle.chosen.specs.Lent.{lentOf}
 use lib.ListN.{replicate}
 use Rattle.rules.specs.declared.Planning.{Planning}
 use Rattle.rules.proofs.Planning as Q

@@ -5,7 +5,7 @@ use rules::Planning;
 ghost use mathlib.Core.Path.{_≡_};
 ghost use Rattle.rules.specs.Promises.{PlanPromise, ListPromise, records};
 ghost use Rattle.laws.specs.Checked.{tablesOf, countsOf};
-ghost use Rattle.chosen.specs.Chosen.{lentOf};
+ghost use Rattle.chosen.specs.Lent.{lentOf};
 ghost use Rattle.held.specs.Held.{blankRun};
 
 // A run of records, all zero.

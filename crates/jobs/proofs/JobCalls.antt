@@ -1,7 +1,7 @@
 -- What a walk knows of the functions on jobs, from their contracts alone. Written by tools/jobs.py.
 -- Assumes `Given`.
 use mathlib.Core.Path.{_≡_, refl, _∙_, ap, subst}
-use Prim.Native.Nat.{ℕ, _<_, _≤_, _^_, _-_}
+use Prim.Native.Nat.{ℕ, _<_, _≤_, _^_}
 use mathlib.Core.List.{List, [], _∷_}
 use lib.IntN.{ℤ}
 use lib.ListN.{length}
@@ -30,16 +30,17 @@ use denote.Triple.Clauses.{ensured, lasts}
 use denote.Triple.Walked.{says}
 use Rattle.rules.specs.declared.Cand.{Cand}
 use Rattle.turns.specs.declared.Pass.{Pass}
-use Rattle.jobs.specs.declared.Job.{Job}
+use Rattle.stages.specs.declared.Job.{Job}
 use Rattle.rules.proofs.Cand as T
 use Rattle.turns.proofs.Pass as P
 use Rattle.turns.proofs.Pass.Laws as P′
-use Rattle.jobs.proofs.Job as J
-use Rattle.jobs.proofs.Job.Laws as J′
-use Rattle.jobs.specs.Jobs.{Inside, Ends, beginOf, Ended, Able, Worked, RowIn, siteAt, hangAt}
+use Rattle.stages.proofs.Job as J
+use Rattle.stages.proofs.Job.Laws as J′
+use Rattle.stages.specs.Stages.{Inside, Ends, beginOf, Ended}
+use Rattle.jobs.specs.Jobs.{Able, Worked, RowIn, siteAt, hangAt}
 use Rattle.runs.proofs.Lending.{at-list, Slice, Sent, Back}
-use Rattle.jobs.proofs.begins.begin as begin
-use Rattle.jobs.proofs.ends.end as end
+use Rattle.stages.proofs.begins.begin as begin
+use Rattle.stages.proofs.ends.end as end
 use Rattle.jobs.proofs.work as work
 use Rattle.jobs.proofs.making.site_job as site-job
 use Rattle.jobs.proofs.making.hang_job as hang-job

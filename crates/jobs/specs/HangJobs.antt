@@ -28,8 +28,9 @@ use Rattle.runs.specs.Beyond.{swept-length}
 use Rattle.runs.specs.Wires.{wires-safe, wires-swept}
 use Rattle.runs.specs.Branches.{branches-safe, branches}
 use Rattle.runs.specs.Moves.{moves-safe, moves}
-use Rattle.jobs.specs.declared.Job.{Job}
-use Rattle.jobs.specs.Jobs.{onTo, wirePass, branchPass, movePass, beginOf, Ended, Inside, Ends, Able, over, more, Worked, stop, pass, hangJob}
+use Rattle.stages.specs.declared.Job.{Job}
+use Rattle.stages.specs.Stages.{onTo, wirePass, branchPass, movePass, beginOf, Ended, Inside, Ends}
+use Rattle.jobs.specs.Jobs.{Able, over, more, Worked, stop, pass, hangJob}
 
 module _ (ts : List ℕ) (types-long : 12 ≤ length ts) (x : Row) (ohms : x .resistance .0 ≤ mostOhms) where
   abbrev link : Wire

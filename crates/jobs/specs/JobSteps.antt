@@ -9,8 +9,9 @@ use Rattle.rules.specs.declared.Cand.{Cand}
 use Rattle.turns.specs.declared.Pass.{Pass}
 use Rattle.runs.specs.Passes.{Safe, Swept}
 use Rattle.runs.specs.Beyond.{swept-length, swept-behind}
-use Rattle.jobs.specs.declared.Job.{Job}
-use Rattle.jobs.specs.Jobs.{beginOf, Ended, Inside, Ends, Able, over, more, Worked, stop, pass}
+use Rattle.stages.specs.declared.Job.{Job}
+use Rattle.stages.specs.Stages.{beginOf, Ended, Inside, Ends}
+use Rattle.jobs.specs.Jobs.{Able, over, more, Worked, stop, pass}
 use Rattle.jobs.specs.Working.{ended-less, able-safe, able-next}
 
 module _ (types : List ℕ) (Inv : Job → List Cand → Type 0)

@@ -39,8 +39,9 @@ use Rattle.runs.specs.Passes.{Safe, Swept}
 use Rattle.runs.specs.Beyond.{swept-length}
 use Rattle.runs.specs.Choices.{choices-safe, choices-swept}
 use Rattle.runs.specs.Inserts.{inserts-safe, inserts-swept}
-use Rattle.jobs.specs.declared.Job.{Job}
-use Rattle.jobs.specs.Jobs.{unset, pinPass, choicePass, insertPass, beginOf, Chosen, Ended, Inside, Ends, Able, Worked, pinOf, siteJob}
+use Rattle.stages.specs.declared.Job.{Job}
+use Rattle.stages.specs.Stages.{unset, pinPass, choicePass, insertPass, beginOf, Chosen, Ended, Inside, Ends}
+use Rattle.jobs.specs.Jobs.{Able, Worked, pinOf, siteJob}
 use Rattle.jobs.specs.JobSteps.{kept-able, kept-worked}
 
 -- ---- the site's step by one type more

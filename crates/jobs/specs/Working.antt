@@ -8,8 +8,9 @@ use lib.Dec.{ltb}
 use Rattle.rules.specs.declared.Cand.{Cand}
 use Rattle.turns.specs.declared.Pass.{Pass}
 use Rattle.runs.specs.Passes.{Safe, Swept}
-use Rattle.jobs.specs.declared.Job.{Job}
-use Rattle.jobs.specs.Jobs.{onTo, ownAt, beginOf, Chosen, Ended, Inside, Ends, Able, over, more, Worked}
+use Rattle.stages.specs.declared.Job.{Job}
+use Rattle.stages.specs.Stages.{onTo, ownAt, beginOf, Chosen, Ended, Inside, Ends}
+use Rattle.jobs.specs.Jobs.{Able, over, more, Worked}
 
 -- on to the next pass of the same job
 pub record Next (j r : Job) : Type 0 where

@@ -1,31 +1,11 @@
 // What is done with a row's own list, pass by pass. At its site: its pin is put down, the best behind each type is chosen, and each is put
 // in. Then it goes through the row's wire, and is joined with the list that waits before it.
 use rules::Cand;
-use rules::Femtofarad;
-use rules::Ohm;
+use stages::Job;
 ghost use Prim.Native.Nat.{_≤_};
 ghost use Rattle.jobs.specs.Jobs.{Able, Worked, RowIn, siteAt, hangAt};
 
-pub mod begins;
-pub mod ends;
 pub mod making;
-
-// The row's list stands `later` places behind `low`, where the list of the later rows beside it waits.
-pub struct Job {
-    pub step: usize,
-    pub steps: usize,
-    pub low: usize,
-    pub later: usize,
-    pub own: usize,
-    pub made: usize,
-    pub count: usize,
-    pub site: usize,
-    pub sink: bool,
-    pub pin: Cand,
-    pub resistance: Ohm,
-    pub capacitance: Femtofarad,
-    pub best: [Cand; 4],
-}
 
 // All passes of a job; the length of the list that they leave.
 pub fn work(run: &mut [Cand], types: &[u32], job: Job) -> usize
@@ -34,9 +14,9 @@ pub fn work(run: &mut [Cand], types: &[u32], job: Job) -> usize
 {
     let mut j = job;
     while j.step < j.steps {
-        let p = begins::begin(types, j);
+        let p = stages::begins::begin(types, j);
         let e = runs::passes::sweep(run, p);
-        j = ends::end(types, j, e);
+        j = stages::ends::end(types, j, e);
     }
     j.own
 }

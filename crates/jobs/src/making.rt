@@ -1,7 +1,7 @@
 // The jobs of a row.
-use crate::Job;
 use rules::Cand;
 use rules::Kind;
+use stages::Job;
 ghost use mathlib.Core.Path.{_≡_};
 ghost use mathlib.Core.Bool.{cond};
 ghost use Prim.Native.Nat.{_≤_};

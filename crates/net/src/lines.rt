@@ -12,7 +12,6 @@ use text::field_at;
 use text::number_at;
 use text::signed_at;
 ghost use mathlib.Core.Path.{_≡_};
-ghost use Prim.Native.Nat.{_<_};
 ghost use Rattle.rules.specs.Text.{typeLine, driverLine, pointLine, sinkLine, lineOf, parted};
 ghost use Rattle.text.specs.Stretches.{tab};
 ghost use Rattle.text.specs.Fields.{fieldsFrom, fieldAt};

@@ -16,7 +16,7 @@ use Rattle.rules.specs.Answers.{planFigures, listFigures}
 use Rattle.rules.specs.Promises.{columns, shortLent, shortPlacement, tablesRefusal, listRefusal, PlanPromise, ListPromise}
 use Rattle.laws.specs.Checked.{Passed, passed-own, short-own}
 use Rattle.rooms.specs.Rooms.{shortBy, shortListBy}
-use Rattle.chosen.specs.Chosen.{columnsOf, lentOf}
+use Rattle.chosen.specs.Lent.{columnsOf, lentOf}
 
 module _ (t : Tables) (n : Counts) (ls : List ℕ) (ts : List ℤ) (ws : List ℕ) where
   -- ---- plan_net

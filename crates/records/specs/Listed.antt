@@ -3,7 +3,7 @@ use mathlib.Core.Path.{_≡_, refl, sym, ap, _∙_}
 use mathlib.Core.Bool.{Bool, true, false, cond, _||_}
 use mathlib.Core.List.{List, [], _∷_, _++_, map}
 use mathlib.Core.Option.{some}
-use Prim.Native.Nat.{ℕ, zero, suc, _+_, _-_, _≤_, _<_}
+use Prim.Native.Nat.{ℕ, zero, suc, _+_, _≤_, _<_}
 use native.Mathlib.Omega.{arith}
 use lib.Dec.{ltb, leb}
 use lib.IntN.{ℤ}
@@ -31,7 +31,7 @@ use Rattle.rows.specs.Given.{held}
 use Rattle.columns.specs.Parts.{part, part-length}
 use Rattle.columns.specs.Run.{Candidate}
 use Rattle.clearing.specs.Clearing.{cleared-written}
-use Rattle.chosen.specs.Chosen.{lentOf}
+use Rattle.chosen.specs.Lent.{lentOf}
 use Rattle.chosen.specs.Promised.{entriesOf, tree, tree-row, made-few}
 use Rattle.rules.specs.declared.Cand.{Cand}
 use Rattle.turns.specs.declared.Pass.{Pass}

@@ -3,7 +3,7 @@ use mathlib.Core.Path.{_≡_, refl, sym, ap, _∙_}
 use mathlib.Core.Bool.{Bool, true, false, cond, _||_}
 use mathlib.Core.List.{List, _++_}
 use mathlib.Core.Option.{some}
-use Prim.Native.Nat.{ℕ, _+_, _-_, _*_, _≤_, _<_}
+use Prim.Native.Nat.{ℕ, _+_, _*_, _≤_, _<_}
 use native.Mathlib.Omega.{arith}
 use lib.Dec.{ltb}
 use lib.IntN.{ℤ, pos}
@@ -29,7 +29,7 @@ use Rattle.columns.specs.Run.{blank, words-read, placeAt}
 use Rattle.columns.specs.Made.{Stand}
 use Rattle.columns.specs.Choosing.{delay-driver}
 use Rattle.clearing.specs.Clearing.{cleared-written}
-use Rattle.chosen.specs.Chosen.{Choice}
+use Rattle.picked.specs.Picked.{Choice}
 use Rattle.chosen.specs.Promised.{entriesOf, timingOf, made-stand, plan-of}
 use Rattle.rules.specs.declared.Cand.{Cand}
 use Rattle.turns.specs.declared.Pass.{Pass}

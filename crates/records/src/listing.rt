@@ -10,7 +10,7 @@ ghost use lib.ListN.{length};
 ghost use Rattle.rules.specs.Quantities.{listRoom};
 ghost use Rattle.rules.specs.Promises.{ListPromise, records};
 ghost use Rattle.laws.specs.Checked.{tablesOf, countsOf};
-ghost use Rattle.chosen.specs.Chosen.{lentOf};
+ghost use Rattle.chosen.specs.Lent.{lentOf};
 ghost use Rattle.records.specs.Listings.{clearOf, ListVerdict, answerOf, MakesIf, SeenIf, ClearsIf, ClearedIf, ListsIf, ListedIf};
 
 // Refusal 7 for the entry's own areas comes first, and 8 last.

@@ -24,7 +24,7 @@ use Rattle.walks.specs.Recursion.{next-there, alone-wired, alone-made, own-room
 use Rattle.rules.specs.declared.Cand.{Cand}
 use Rattle.values.specs.Records.{cands}
 use Rattle.runs.specs.Cands.{cands-length}
-use Rattle.jobs.specs.declared.Job.{Job}
+use Rattle.stages.specs.declared.Job.{Job}
 use Rattle.jobs.specs.Jobs.{RowIn, hangJob, hangAt, Able, Worked}
 use Rattle.jobs.specs.JobSteps.{worked-behind}
 use Rattle.jobs.specs.HangJobs.{alone-able, alone-worked, both-able, both-worked}

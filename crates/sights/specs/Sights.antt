@@ -32,8 +32,9 @@ use Rattle.values.specs.Records.{cands}
 use Rattle.runs.specs.Cands.{cands-length, cands-set}
 use Rattle.runs.specs.Passes.{Safe, Swept}
 use Rattle.runs.specs.Puts.{puts-safe, puts-none, puts-one}
-use Rattle.jobs.specs.declared.Job.{Job}
-use Rattle.jobs.specs.Jobs.{RowIn, pinOf, pinPass, siteJob, Able, Worked}
+use Rattle.stages.specs.declared.Job.{Job}
+use Rattle.stages.specs.Stages.{pinPass}
+use Rattle.jobs.specs.Jobs.{RowIn, pinOf, siteJob, Able, Worked}
 use Rattle.jobs.specs.SiteJobs.{site-able, site-worked}
 use Rattle.sights.specs.Hanging.{Net, Hangs, Hung}
 

@@ -8,7 +8,7 @@ use native.Mathlib.Omega.{arith}
 use lib.ListN.{length}
 use Rattle.rules.specs.declared.Kind.{Kind}
 use Rattle.rules.specs.declared.Kind.the-variants.{Driver, Point, Sink}
-use Rattle.rules.specs.Quantities.{_⊖_, typesRoom, sitesRoom, placementRoom}
+use Rattle.rules.specs.Quantities.{typesRoom, sitesRoom, placementRoom}
 use Rattle.rules.specs.Entries.{Repeater}
 use Rattle.rules.specs.Placements.{Placement, marks}
 use Rattle.rules.specs.Tables.{typeWords}

@@ -4,7 +4,6 @@ use rules::Femtofarad;
 use rules::Femtosecond;
 use rules::Ohm;
 ghost use mathlib.Core.Path.{_≡_};
-ghost use Prim.Native.Nat.{_-_};
 ghost use Rattle.values.specs.Records.{candOf};
 ghost use Rattle.turns.specs.Turns.{passOf, Here, Can, Turned};
 

@@ -1,6 +1,6 @@
 -- What hangs somewhere as a load and a time: nothing, or both. The steps from the sinks up. Assumes nothing.
 use mathlib.Core.Path.{_≡_, sym, ap, subst}
-use Prim.Native.Nat.{ℕ, _+_, _*_, _-_, _≤_}
+use Prim.Native.Nat.{ℕ, _+_, _*_, _≤_}
 use lib.IntN.{ℤ, pos, _-ℤ_}
 use lib.Signed.{mag}
 use Rattle.rules.specs.declared.Femtofarad.{Femtofarad}

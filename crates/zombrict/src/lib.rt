@@ -3,7 +3,7 @@
 mod texts;
 
 ghost use Rattle.net.specs.TableSteps.{tablesOf, countsOf};
-ghost use Rattle.chosen.specs.Chosen.{columnsOf, lentOf};
+ghost use Rattle.chosen.specs.Lent.{columnsOf, lentOf};
 ghost use Rattle.zombrict.specs.Calls.{ReadCall, CheckCall, SlackCall, PlanCall, ListCall};
 
 // A net as text, read into the lent tables. The values answered are the counts of types and rows.

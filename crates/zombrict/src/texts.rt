@@ -12,7 +12,7 @@ use rules::Refusal;
 use rules::Slacking;
 ghost use mathlib.Core.Path.{_≡_};
 ghost use Rattle.net.specs.TableSteps.{tablesOf};
-ghost use Rattle.chosen.specs.Chosen.{lentOf};
+ghost use Rattle.chosen.specs.Lent.{lentOf};
 ghost use Rattle.zombrict.specs.Texts.{SlackRead, PlanRead, ListRead, CheckTextCall, SlackTextCall, PlanTextCall, ListTextCall};
 
 fn wide(x: u32) -> usize

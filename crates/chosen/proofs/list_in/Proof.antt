@@ -1,6 +1,6 @@
 -- `chosen::list_in` meets its contract. Assumes nothing.
 use Rattle.chosen.specs.Promised.{Exact, exact-room, made-few, list-of, zeroed}
-use Rattle.chosen.specs.Chosen.{lentOf}
+use Rattle.chosen.specs.Lent.{lentOf}
 use Rattle.columns.specs.Made.{room-run}
 use Rattle.columns.specs.Run.{run}
 use Rattle.rules.specs.Quantities.{workRoom}

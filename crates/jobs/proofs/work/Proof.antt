@@ -49,24 +49,24 @@ use Rattle.jobs.specs.Jobs.{Able, Worked, stop as all-made, pass}
 use Rattle.jobs.specs.Working.{able-inside, able-ends, able-next, begun-safe, begun-swept, ended-less}
 use Rattle.rules.specs.declared.Cand.{Cand}
 use Rattle.turns.specs.declared.Pass.{Pass}
-use Rattle.jobs.specs.declared.Job.{Job}
+use Rattle.stages.specs.declared.Job.{Job}
 use Rattle.rules.proofs.Cand as T
 use Rattle.turns.proofs.Pass as P
 use Rattle.turns.proofs.Pass.Laws as P′
-use Rattle.jobs.proofs.Job as J
-use Rattle.jobs.proofs.Job.Laws as J′
+use Rattle.stages.proofs.Job as J
+use Rattle.stages.proofs.Job.Laws as J′
 use Rattle.jobs.proofs.JobCalls.{Begin, to-begin, begin-says, goes-begin, gets-begin}
-use Rattle.jobs.proofs.begins.begin.Symbol as begin-def
-use Rattle.jobs.proofs.begins.begin.Symbol.{name as #begin}
-use Rattle.jobs.proofs.begins.begin.Met as begin-thm
+use Rattle.stages.proofs.begins.begin.Symbol as begin-def
+use Rattle.stages.proofs.begins.begin.Symbol.{name as #begin}
+use Rattle.stages.proofs.begins.begin.Met as begin-thm
 use Rattle.runs.proofs.Calls.{Sweep, to-sweep, sweep-vals, sweep-says, goes-sweep, gets-sweep}
 use Rattle.runs.proofs.passes.sweep.Symbol as sweep-def
 use Rattle.runs.proofs.passes.sweep.Symbol.{name as #sweep}
 use Rattle.runs.proofs.passes.sweep.Met as sweep-thm
 use Rattle.jobs.proofs.JobCalls.{End, to-end, end-says, goes-end, gets-end}
-use Rattle.jobs.proofs.ends.end.Symbol as end-def
-use Rattle.jobs.proofs.ends.end.Symbol.{name as #end}
-use Rattle.jobs.proofs.ends.end.Met as end-thm
+use Rattle.stages.proofs.ends.end.Symbol as end-def
+use Rattle.stages.proofs.ends.end.Symbol.{name as #end}
+use Rattle.stages.proofs.ends.end.Met as end-thm
 use Rattle.jobs.proofs.work.Key.{name as #work}
 use Rattle.jobs.proofs.work as f
 use Rattle.jobs.proofs.work.Statement as stated
@@ -127,11 +127,11 @@ module _ {M : Type 1} (𝓤 : URA M) (H : Heap 𝓤) (A : Atoms 𝓤) (W : Given
     fm = fmOf 𝓤 H (W .laws) 𝓣
 
     abbrev E : Env 𝓤 H
-    E = (tyInt w64, l₀) ∷ (sliceTy (tyRef (named 0) mut (pointee (T.the-row .written))), l₁) ∷ (sliceTy (tyRef (named 1) imm (tyInt w32)), l₂) ∷ (named-ty (106 ∷ 111 ∷ 98 ∷ 115 ∷ 58 ∷ 58 ∷ 74 ∷ 111 ∷ 98 ∷ []), l₃) ∷ (named-ty (106 ∷ 111 ∷ 98 ∷ 115 ∷ 58 ∷ 58 ∷ 74 ∷ 111 ∷ 98 ∷ []), l₄) ∷ (named-ty (116 ∷ 117 ∷ 114 ∷ 110 ∷ 115 ∷ 58 ∷ 58 ∷ 80 ∷ 97 ∷ 115 ∷ 115 ∷ []), l₅) ∷ (named-ty (116 ∷ 117 ∷ 114 ∷ 110 ∷ 115 ∷ 58 ∷ 58 ∷ 80 ∷ 97 ∷ 115 ∷ 115 ∷ []), l₆) ∷ (tyBool, l₇) ∷ (tyRef erased mut (pointee (T.the-row .written)), l₈) ∷ (sliceTy (tyRef erased mut (pointee (T.the-row .written))), l₉) ∷ []
+    E = (tyInt w64, l₀) ∷ (sliceTy (tyRef (named 0) mut (pointee (T.the-row .written))), l₁) ∷ (sliceTy (tyRef (named 1) imm (tyInt w32)), l₂) ∷ (named-ty (115 ∷ 116 ∷ 97 ∷ 103 ∷ 101 ∷ 115 ∷ 58 ∷ 58 ∷ 74 ∷ 111 ∷ 98 ∷ []), l₃) ∷ (named-ty (115 ∷ 116 ∷ 97 ∷ 103 ∷ 101 ∷ 115 ∷ 58 ∷ 58 ∷ 74 ∷ 111 ∷ 98 ∷ []), l₄) ∷ (named-ty (116 ∷ 117 ∷ 114 ∷ 110 ∷ 115 ∷ 58 ∷ 58 ∷ 80 ∷ 97 ∷ 115 ∷ 115 ∷ []), l₅) ∷ (named-ty (116 ∷ 117 ∷ 114 ∷ 110 ∷ 115 ∷ 58 ∷ 58 ∷ 80 ∷ 97 ∷ 115 ∷ 115 ∷ []), l₆) ∷ (tyBool, l₇) ∷ (tyRef erased mut (pointee (T.the-row .written)), l₈) ∷ (sliceTy (tyRef erased mut (pointee (T.the-row .written))), l₉) ∷ []
 
     -- what is had at the test
     abbrev I : State → List (Item 𝓤)
-    I s = raw (fact 𝓤 (Inv s)) ∷ ‵ (Slice T.the-row b-run o-run κ-run m-run γ-run (s .1)) ∷ ‵ (flft κ-run q-run) ∷ ‵ ftrue ∷ ‵ (flft κ-types q-types) ∷ ‵ (ShrSlice (named 1) κ-types u32 .own t-types (sliceVal (t-types .ptr) (length (t-types .now)) ∷ [])) ∷ ‵ (froom (sliceTy (tyRef erased mut (pointee (T.the-row .written)))) l₉ 0) ∷ ‵ (fdies (sliceTy (tyRef erased mut (pointee (T.the-row .written)))) l₉) ∷ ‵ (froom (tyRef erased mut (pointee (T.the-row .written))) l₈ 0) ∷ ‵ (fdies (tyRef erased mut (pointee (T.the-row .written))) l₈) ∷ ‵ (froom tyBool l₇ 0) ∷ ‵ (fdies tyBool l₇) ∷ ‵ (froom (named-ty (116 ∷ 117 ∷ 114 ∷ 110 ∷ 115 ∷ 58 ∷ 58 ∷ 80 ∷ 97 ∷ 115 ∷ 115 ∷ [])) l₆ 0) ∷ ‵ (fdies (named-ty (116 ∷ 117 ∷ 114 ∷ 110 ∷ 115 ∷ 58 ∷ 58 ∷ 80 ∷ 97 ∷ 115 ∷ 115 ∷ [])) l₆) ∷ ‵ (froom (named-ty (116 ∷ 117 ∷ 114 ∷ 110 ∷ 115 ∷ 58 ∷ 58 ∷ 80 ∷ 97 ∷ 115 ∷ 115 ∷ [])) l₅ 0) ∷ ‵ (fdies (named-ty (116 ∷ 117 ∷ 114 ∷ 110 ∷ 115 ∷ 58 ∷ 58 ∷ 80 ∷ 97 ∷ 115 ∷ 115 ∷ [])) l₅) ∷ ‵ (fat fullShare (named-ty (106 ∷ 111 ∷ 98 ∷ 115 ∷ 58 ∷ 58 ∷ 74 ∷ 111 ∷ 98 ∷ [])) l₄ 0 (LL.val J.the-type J′.the-laws ((s .0)))) ∷ ‵ (fdies (named-ty (106 ∷ 111 ∷ 98 ∷ 115 ∷ 58 ∷ 58 ∷ 74 ∷ 111 ∷ 98 ∷ [])) l₄) ∷ ‵ (fat fullShare (named-ty (106 ∷ 111 ∷ 98 ∷ 115 ∷ 58 ∷ 58 ∷ 74 ∷ 111 ∷ 98 ∷ [])) l₃ 0 (LL.val J.the-type J′.the-laws job)) ∷ ‵ (fdies (named-ty (106 ∷ 111 ∷ 98 ∷ 115 ∷ 58 ∷ 58 ∷ 74 ∷ 111 ∷ 98 ∷ [])) l₃) ∷ ‵ (fat fullShare (sliceTy (tyRef (named 1) imm (tyInt w32))) l₂ 0 (sliceVal (t-types .ptr) (length (t-types .now)))) ∷ ‵ (fdies (sliceTy (tyRef (named 1) imm (tyInt w32))) l₂) ∷ ‵ (fat fullShare (sliceTy (tyRef (named 0) mut (pointee (T.the-row .written)))) l₁ 0 (sliceVal (b-run, o-run) m-run)) ∷ ‵ (fdies (sliceTy (tyRef (named 0) mut (pointee (T.the-row .written)))) l₁) ∷ ‵ (froom (tyInt w64) l₀ 0) ∷ ‵ (fdies (tyInt w64) l₀) ∷ []
+    I s = raw (fact 𝓤 (Inv s)) ∷ ‵ (Slice T.the-row b-run o-run κ-run m-run γ-run (s .1)) ∷ ‵ (flft κ-run q-run) ∷ ‵ ftrue ∷ ‵ (flft κ-types q-types) ∷ ‵ (ShrSlice (named 1) κ-types u32 .own t-types (sliceVal (t-types .ptr) (length (t-types .now)) ∷ [])) ∷ ‵ (froom (sliceTy (tyRef erased mut (pointee (T.the-row .written)))) l₉ 0) ∷ ‵ (fdies (sliceTy (tyRef erased mut (pointee (T.the-row .written)))) l₉) ∷ ‵ (froom (tyRef erased mut (pointee (T.the-row .written))) l₈ 0) ∷ ‵ (fdies (tyRef erased mut (pointee (T.the-row .written))) l₈) ∷ ‵ (froom tyBool l₇ 0) ∷ ‵ (fdies tyBool l₇) ∷ ‵ (froom (named-ty (116 ∷ 117 ∷ 114 ∷ 110 ∷ 115 ∷ 58 ∷ 58 ∷ 80 ∷ 97 ∷ 115 ∷ 115 ∷ [])) l₆ 0) ∷ ‵ (fdies (named-ty (116 ∷ 117 ∷ 114 ∷ 110 ∷ 115 ∷ 58 ∷ 58 ∷ 80 ∷ 97 ∷ 115 ∷ 115 ∷ [])) l₆) ∷ ‵ (froom (named-ty (116 ∷ 117 ∷ 114 ∷ 110 ∷ 115 ∷ 58 ∷ 58 ∷ 80 ∷ 97 ∷ 115 ∷ 115 ∷ [])) l₅ 0) ∷ ‵ (fdies (named-ty (116 ∷ 117 ∷ 114 ∷ 110 ∷ 115 ∷ 58 ∷ 58 ∷ 80 ∷ 97 ∷ 115 ∷ 115 ∷ [])) l₅) ∷ ‵ (fat fullShare (named-ty (115 ∷ 116 ∷ 97 ∷ 103 ∷ 101 ∷ 115 ∷ 58 ∷ 58 ∷ 74 ∷ 111 ∷ 98 ∷ [])) l₄ 0 (LL.val J.the-type J′.the-laws ((s .0)))) ∷ ‵ (fdies (named-ty (115 ∷ 116 ∷ 97 ∷ 103 ∷ 101 ∷ 115 ∷ 58 ∷ 58 ∷ 74 ∷ 111 ∷ 98 ∷ [])) l₄) ∷ ‵ (fat fullShare (named-ty (115 ∷ 116 ∷ 97 ∷ 103 ∷ 101 ∷ 115 ∷ 58 ∷ 58 ∷ 74 ∷ 111 ∷ 98 ∷ [])) l₃ 0 (LL.val J.the-type J′.the-laws job)) ∷ ‵ (fdies (named-ty (115 ∷ 116 ∷ 97 ∷ 103 ∷ 101 ∷ 115 ∷ 58 ∷ 58 ∷ 74 ∷ 111 ∷ 98 ∷ [])) l₃) ∷ ‵ (fat fullShare (sliceTy (tyRef (named 1) imm (tyInt w32))) l₂ 0 (sliceVal (t-types .ptr) (length (t-types .now)))) ∷ ‵ (fdies (sliceTy (tyRef (named 1) imm (tyInt w32))) l₂) ∷ ‵ (fat fullShare (sliceTy (tyRef (named 0) mut (pointee (T.the-row .written)))) l₁ 0 (sliceVal (b-run, o-run) m-run)) ∷ ‵ (fdies (sliceTy (tyRef (named 0) mut (pointee (T.the-row .written)))) l₁) ∷ ‵ (froom (tyInt w64) l₀ 0) ∷ ‵ (fdies (tyInt w64) l₀) ∷ []
 
     abbrev less : State → State → Type 0
     less s′ s = s′ .0 .steps - s′ .0 .step < s .0 .steps - s .0 .step
@@ -145,7 +145,7 @@ module _ {M : Type 1} (𝓤 : URA M) (H : Heap 𝓤) (A : Atoms 𝓤) (W : Given
         heard ! (Inv s) (λ inv. assigns ! (bin ! (load ! (from ! (fld ! refl (stop !))) (look-in ! 15 (sub ! 0 refl (whole !)))) (load ! (from ! (fld ! refl (stop !))) (look-in ! 15 (sub ! 1 refl (whole !)))) tt) (from ! (stop !)) (init ! 9 refl (tt, tt)) $
         test (ltb (s .0 .step) (s .0 .steps))
         (λ t small. let more : s .0 .step < s .0 .steps = ltb→lt (s .0 .step) (s .0 .steps) small in
-        rewrite ! 9 (λ (y : Bool). ‵ (fat fullShare tyBool l₇ 0 (vbool y))) t refl $ stays ! (load ! (from ! (stop !)) (look ! 9 refl)) $ move ! (4 ∷ []) $ use1 W (‵ (ShrSlice (named 1) κ-types u32 .own t-types (sliceVal (t-types .ptr) (length (t-types .now)) ∷ [])) ⊛ ‵ (ShrSlice (named 1) κ-types u32 .own t-types (sliceVal (t-types .ptr) (length (t-types .now)) ∷ []))) (shr-slice-copy 𝓤 H A W (named 1) κ-types u32 .twice t-types (sliceVal (t-types .ptr) (length (t-types .now)) ∷ [])) $ split ! $ move ! (5 ∷ 0 ∷ []) $ fjoin ! $ use1 W (raw (Begin 𝓤 H A mem run .pre (to-begin 𝓤 H A mem run W κ-types q-types t-types ((s .0))))) (goes-begin 𝓤 H A mem run W κ-types q-types t-types ((s .0)) (able-inside (inv .able) more) (inv .is)) $ calls-at ! fm (Begin 𝓤 H A mem run) known-begin (to-begin 𝓤 H A mem run W κ-types q-types t-types ((s .0))) (and-then ! (load ! (from ! (stop !)) (look ! 19 refl)) (and-then ! (load ! (from ! (stop !)) (look ! 15 refl)) (no-more !))) (λ w₁. use1 W (later (some (λ (r : Pass). given (begin-says 𝓤 H A mem run W κ-types q-types t-types ((s .0)) r w₁) (‵ (flft κ-types q-types))))) (gets-begin 𝓤 H A mem run W κ-types q-types t-types ((s .0)) w₁) $ await ! tt $ pick ! (λ r₁. learn ! (λ is₁. land ! (from ! (stop !)) (init ! 13 refl (typed-as (named-ty (116 ∷ 117 ∷ 114 ∷ 110 ∷ 115 ∷ 58 ∷ 58 ∷ 80 ∷ 97 ∷ 115 ∷ 115 ∷ [])) w₁ (is₁ .0) (LL.lawful P.the-type P′.the-laws 𝓤 H A W .typed r₁ _ (is₁ .1 .0) .0))) $ rewrite ! 13 (λ (z : Val). ‵ (fat fullShare (named-ty (116 ∷ 117 ∷ 114 ∷ 110 ∷ 115 ∷ 58 ∷ 58 ∷ 80 ∷ 97 ∷ 115 ∷ 115 ∷ [])) l₅ 0 z)) (is₁ .0) refl $ assigns ! (addr ! (from ! (fld ! refl (hop ! (look-in ! 21 (sub ! 0 refl (whole !))) (stop !))))) (from ! (stop !)) (init ! 7 refl (tt, tt)) $ assigns ! (agg ! (and-then ! (load ! (from ! (stop !)) (look ! 7 refl)) (and-then ! (load ! (from ! (fld ! refl (stop !))) (look-in ! 21 (sub ! 1 refl (whole !)))) (no-more !)))) (from ! (stop !)) (init ! 5 refl (tt, (tt, (record { fits = room-run .0 }, tt)))) $ move ! (2 ∷ 3 ∷ 4 ∷ []) $ calls-out ! fm (ftrue) (ftrue) T.the-row b-run o-run m-run (s .1) (inv .long) room-run (sweep-says 𝓤 H A mem run W b-run o-run m-run (s .1) r₁) (λ ν δ. Sweep 𝓤 H A mem run .pre (to-sweep 𝓤 H A mem run W b-run o-run m-run (s .1) r₁ ν δ)) (sweep-vals 𝓤 H A mem run W b-run o-run m-run (s .1) r₁) (λ ν δ w. Sweep 𝓤 H A mem run .post (to-sweep 𝓤 H A mem run W b-run o-run m-run (s .1) r₁ ν δ) w) (goes-sweep 𝓤 H A mem run W b-run o-run m-run (s .1) r₁ (begun-safe (is₁ .1 .1) (inv .able) more) (is₁ .1 .0)) (λ ν δ. known-sweep (to-sweep 𝓤 H A mem run W b-run o-run m-run (s .1) r₁ ν δ)) (gets-sweep 𝓤 H A mem run W b-run o-run m-run (s .1) r₁ (inv .long)) (λ ν δ. and-then ! (load ! (from ! (stop !)) (look ! 4 refl)) (and-then ! (load ! (from ! (stop !)) (look ! 12 refl)) (no-more !))) (λ w₂ r₂ zs₂ len₂ is₂. land ! (from ! (stop !)) (init ! 11 refl (typed-as (named-ty (116 ∷ 117 ∷ 114 ∷ 110 ∷ 115 ∷ 58 ∷ 58 ∷ 80 ∷ 97 ∷ 115 ∷ 115 ∷ [])) w₂ (is₂ .0) (LL.lawful P.the-type P′.the-laws 𝓤 H A W .typed r₂ _ (is₂ .1 .0) .0))) $ rewrite ! 11 (λ (z : Val). ‵ (fat fullShare (named-ty (116 ∷ 117 ∷ 114 ∷ 110 ∷ 115 ∷ 58 ∷ 58 ∷ 80 ∷ 97 ∷ 115 ∷ 115 ∷ [])) l₆ 0 z)) (is₂ .0) refl $ move ! (4 ∷ []) $ use1 W (‵ (ShrSlice (named 1) κ-types u32 .own t-types (sliceVal (t-types .ptr) (length (t-types .now)) ∷ [])) ⊛ ‵ (ShrSlice (named 1) κ-types u32 .own t-types (sliceVal (t-types .ptr) (length (t-types .now)) ∷ []))) (shr-slice-copy 𝓤 H A W (named 1) κ-types u32 .twice t-types (sliceVal (t-types .ptr) (length (t-types .now)) ∷ [])) $ split ! $ move ! (5 ∷ 0 ∷ []) $ fjoin ! $ use1 W (raw (End 𝓤 H A mem run .pre (to-end 𝓤 H A mem run W κ-types q-types t-types ((s .0)) r₂))) (goes-end 𝓤 H A mem run W κ-types q-types t-types ((s .0)) r₂ ((able-inside (inv .able) more, able-ends (inv .able) more (begun-swept (t-types .now) (s .0) (is₁ .1 .1) (is₂ .1 .1)))) (inv .is) (is₂ .1 .0)) $ calls-at-last ! fm (End 𝓤 H A mem run) known-end (to-end 𝓤 H A mem run W κ-types q-types t-types ((s .0)) r₂) (and-then ! (load ! (from ! (stop !)) (look ! 19 refl)) (and-then ! (load ! (from ! (stop !)) (look ! 15 refl)) (and-then ! (load ! (from ! (stop !)) (look ! 11 refl)) (no-more !)))) (λ w₃. use1 W (later (some (λ (r : Job). given (end-says 𝓤 H A mem run W κ-types q-types t-types ((s .0)) r₂ r w₃) (‵ (flft κ-types q-types))))) (gets-end 𝓤 H A mem run W κ-types q-types t-types ((s .0)) r₂ w₃) $ await ! tt $ pick ! (λ r₃. learn ! (λ is₃. land-last ! (from ! (stop !)) (store ! 15 refl (typed-as (named-ty (106 ∷ 111 ∷ 98 ∷ 115 ∷ 58 ∷ 58 ∷ 74 ∷ 111 ∷ 98 ∷ [])) w₃ (is₃ .0) (LL.lawful J.the-type J′.the-laws 𝓤 H A W .typed r₃ _ (is₃ .1 .0) .0))) $ rewrite ! 15 (λ (z : Val). ‵ (fat fullShare (named-ty (106 ∷ 111 ∷ 98 ∷ 115 ∷ 58 ∷ 58 ∷ 74 ∷ 111 ∷ 98 ∷ [])) l₄ 0 z)) (is₃ .0) refl $ forget ! 5 refl $ forget ! 7 refl $ forget ! 9 refl $ forget ! 11 refl $ forget ! 13 refl $ move ! (2 ∷ 3 ∷ 4 ∷ 0 ∷ 1 ∷ []) $ use0 W (raw (fact 𝓤 (Inv (r₃, zs₂)))) (factI 𝓤 _ (emp 𝓤) (record { is = is₃ .1 .0; long = len₂; able = able-next (inv .able) more (begun-swept (t-types .now) (s .0) (is₁ .1 .1) (is₂ .1 .1)) (is₃ .1 .1); worked = λ vs k h. inv .worked vs k (pass r₂ more (begun-swept (t-types .now) (s .0) (is₁ .1 .1) (is₂ .1 .1)) (is₃ .1 .1) h) })) $ again ! less I s (r₃, zs₂) (ended-less (t-types .now) (s .0) r₃ r₂ (is₃ .1 .1) more)))))))))
+        rewrite ! 9 (λ (y : Bool). ‵ (fat fullShare tyBool l₇ 0 (vbool y))) t refl $ stays ! (load ! (from ! (stop !)) (look ! 9 refl)) $ move ! (4 ∷ []) $ use1 W (‵ (ShrSlice (named 1) κ-types u32 .own t-types (sliceVal (t-types .ptr) (length (t-types .now)) ∷ [])) ⊛ ‵ (ShrSlice (named 1) κ-types u32 .own t-types (sliceVal (t-types .ptr) (length (t-types .now)) ∷ []))) (shr-slice-copy 𝓤 H A W (named 1) κ-types u32 .twice t-types (sliceVal (t-types .ptr) (length (t-types .now)) ∷ [])) $ split ! $ move ! (5 ∷ 0 ∷ []) $ fjoin ! $ use1 W (raw (Begin 𝓤 H A mem run .pre (to-begin 𝓤 H A mem run W κ-types q-types t-types ((s .0))))) (goes-begin 𝓤 H A mem run W κ-types q-types t-types ((s .0)) (able-inside (inv .able) more) (inv .is)) $ calls-at ! fm (Begin 𝓤 H A mem run) known-begin (to-begin 𝓤 H A mem run W κ-types q-types t-types ((s .0))) (and-then ! (load ! (from ! (stop !)) (look ! 19 refl)) (and-then ! (load ! (from ! (stop !)) (look ! 15 refl)) (no-more !))) (λ w₁. use1 W (later (some (λ (r : Pass). given (begin-says 𝓤 H A mem run W κ-types q-types t-types ((s .0)) r w₁) (‵ (flft κ-types q-types))))) (gets-begin 𝓤 H A mem run W κ-types q-types t-types ((s .0)) w₁) $ await ! tt $ pick ! (λ r₁. learn ! (λ is₁. land ! (from ! (stop !)) (init ! 13 refl (typed-as (named-ty (116 ∷ 117 ∷ 114 ∷ 110 ∷ 115 ∷ 58 ∷ 58 ∷ 80 ∷ 97 ∷ 115 ∷ 115 ∷ [])) w₁ (is₁ .0) (LL.lawful P.the-type P′.the-laws 𝓤 H A W .typed r₁ _ (is₁ .1 .0) .0))) $ rewrite ! 13 (λ (z : Val). ‵ (fat fullShare (named-ty (116 ∷ 117 ∷ 114 ∷ 110 ∷ 115 ∷ 58 ∷ 58 ∷ 80 ∷ 97 ∷ 115 ∷ 115 ∷ [])) l₅ 0 z)) (is₁ .0) refl $ assigns ! (addr ! (from ! (fld ! refl (hop ! (look-in ! 21 (sub ! 0 refl (whole !))) (stop !))))) (from ! (stop !)) (init ! 7 refl (tt, tt)) $ assigns ! (agg ! (and-then ! (load ! (from ! (stop !)) (look ! 7 refl)) (and-then ! (load ! (from ! (fld ! refl (stop !))) (look-in ! 21 (sub ! 1 refl (whole !)))) (no-more !)))) (from ! (stop !)) (init ! 5 refl (tt, (tt, (record { fits = room-run .0 }, tt)))) $ move ! (2 ∷ 3 ∷ 4 ∷ []) $ calls-out ! fm (ftrue) (ftrue) T.the-row b-run o-run m-run (s .1) (inv .long) room-run (sweep-says 𝓤 H A mem run W b-run o-run m-run (s .1) r₁) (λ ν δ. Sweep 𝓤 H A mem run .pre (to-sweep 𝓤 H A mem run W b-run o-run m-run (s .1) r₁ ν δ)) (sweep-vals 𝓤 H A mem run W b-run o-run m-run (s .1) r₁) (λ ν δ w. Sweep 𝓤 H A mem run .post (to-sweep 𝓤 H A mem run W b-run o-run m-run (s .1) r₁ ν δ) w) (goes-sweep 𝓤 H A mem run W b-run o-run m-run (s .1) r₁ (begun-safe (is₁ .1 .1) (inv .able) more) (is₁ .1 .0)) (λ ν δ. known-sweep (to-sweep 𝓤 H A mem run W b-run o-run m-run (s .1) r₁ ν δ)) (gets-sweep 𝓤 H A mem run W b-run o-run m-run (s .1) r₁ (inv .long)) (λ ν δ. and-then ! (load ! (from ! (stop !)) (look ! 4 refl)) (and-then ! (load ! (from ! (stop !)) (look ! 12 refl)) (no-more !))) (λ w₂ r₂ zs₂ len₂ is₂. land ! (from ! (stop !)) (init ! 11 refl (typed-as (named-ty (116 ∷ 117 ∷ 114 ∷ 110 ∷ 115 ∷ 58 ∷ 58 ∷ 80 ∷ 97 ∷ 115 ∷ 115 ∷ [])) w₂ (is₂ .0) (LL.lawful P.the-type P′.the-laws 𝓤 H A W .typed r₂ _ (is₂ .1 .0) .0))) $ rewrite ! 11 (λ (z : Val). ‵ (fat fullShare (named-ty (116 ∷ 117 ∷ 114 ∷ 110 ∷ 115 ∷ 58 ∷ 58 ∷ 80 ∷ 97 ∷ 115 ∷ 115 ∷ [])) l₆ 0 z)) (is₂ .0) refl $ move ! (4 ∷ []) $ use1 W (‵ (ShrSlice (named 1) κ-types u32 .own t-types (sliceVal (t-types .ptr) (length (t-types .now)) ∷ [])) ⊛ ‵ (ShrSlice (named 1) κ-types u32 .own t-types (sliceVal (t-types .ptr) (length (t-types .now)) ∷ []))) (shr-slice-copy 𝓤 H A W (named 1) κ-types u32 .twice t-types (sliceVal (t-types .ptr) (length (t-types .now)) ∷ [])) $ split ! $ move ! (5 ∷ 0 ∷ []) $ fjoin ! $ use1 W (raw (End 𝓤 H A mem run .pre (to-end 𝓤 H A mem run W κ-types q-types t-types ((s .0)) r₂))) (goes-end 𝓤 H A mem run W κ-types q-types t-types ((s .0)) r₂ ((able-inside (inv .able) more, able-ends (inv .able) more (begun-swept (t-types .now) (s .0) (is₁ .1 .1) (is₂ .1 .1)))) (inv .is) (is₂ .1 .0)) $ calls-at-last ! fm (End 𝓤 H A mem run) known-end (to-end 𝓤 H A mem run W κ-types q-types t-types ((s .0)) r₂) (and-then ! (load ! (from ! (stop !)) (look ! 19 refl)) (and-then ! (load ! (from ! (stop !)) (look ! 15 refl)) (and-then ! (load ! (from ! (stop !)) (look ! 11 refl)) (no-more !)))) (λ w₃. use1 W (later (some (λ (r : Job). given (end-says 𝓤 H A mem run W κ-types q-types t-types ((s .0)) r₂ r w₃) (‵ (flft κ-types q-types))))) (gets-end 𝓤 H A mem run W κ-types q-types t-types ((s .0)) r₂ w₃) $ await ! tt $ pick ! (λ r₃. learn ! (λ is₃. land-last ! (from ! (stop !)) (store ! 15 refl (typed-as (named-ty (115 ∷ 116 ∷ 97 ∷ 103 ∷ 101 ∷ 115 ∷ 58 ∷ 58 ∷ 74 ∷ 111 ∷ 98 ∷ [])) w₃ (is₃ .0) (LL.lawful J.the-type J′.the-laws 𝓤 H A W .typed r₃ _ (is₃ .1 .0) .0))) $ rewrite ! 15 (λ (z : Val). ‵ (fat fullShare (named-ty (115 ∷ 116 ∷ 97 ∷ 103 ∷ 101 ∷ 115 ∷ 58 ∷ 58 ∷ 74 ∷ 111 ∷ 98 ∷ [])) l₄ 0 z)) (is₃ .0) refl $ forget ! 5 refl $ forget ! 7 refl $ forget ! 9 refl $ forget ! 11 refl $ forget ! 13 refl $ move ! (2 ∷ 3 ∷ 4 ∷ 0 ∷ 1 ∷ []) $ use0 W (raw (fact 𝓤 (Inv (r₃, zs₂)))) (factI 𝓤 _ (emp 𝓤) (record { is = is₃ .1 .0; long = len₂; able = able-next (inv .able) more (begun-swept (t-types .now) (s .0) (is₁ .1 .1) (is₂ .1 .1)) (is₃ .1 .1); worked = λ vs k h. inv .worked vs k (pass r₂ more (begun-swept (t-types .now) (s .0) (is₁ .1 .1) (is₂ .1 .1)) (is₃ .1 .1) h) })) $ again ! less I s (r₃, zs₂) (ended-less (t-types .now) (s .0) r₃ r₂ (is₃ .1 .1) more)))))))))
         (λ t large. rewrite ! 9 (λ (y : Bool). ‵ (fat fullShare tyBool l₇ 0 (vbool y))) t refl $ leaves-loop ! (load ! (from ! (stop !)) (look ! 9 refl)) $ exec ! C Λ E M′.t-3 (atRet E Post) $ assigns ! (of-opd ! (load ! (from ! (fld ! refl (stop !))) (look-in ! 15 (sub ! 4 refl (whole !))))) (from ! (stop !)) (init ! 23 refl (tt, record { fits = LL.owed J.the-type J′.the-laws ((s .0)) _ (inv .is) .1 .1 .1 .1 .0 .1 })) $ returns ! (look ! 23 refl) $ forget ! 9 refl $ forget ! 15 refl $ forget ! 17 refl $ forget ! 19 refl $ forget ! 21 refl $ forget ! 23 refl $ move ! (23 ∷ 24 ∷ []) $ free1 ! $ move ! (21 ∷ 22 ∷ []) $ free1 ! $ move ! (19 ∷ 20 ∷ []) $ free1 ! $ move ! (17 ∷ 18 ∷ []) $ free1 ! $ move ! (15 ∷ 16 ∷ []) $ free1 ! $ move ! (13 ∷ 14 ∷ []) $ free1 ! $ move ! (11 ∷ 12 ∷ []) $ free1 ! $ move ! (9 ∷ 10 ∷ []) $ free1 ! $ move ! (7 ∷ 8 ∷ []) $ free1 ! $ move ! (5 ∷ 6 ∷ []) $ free1 ! $ free0 ! $ keep ! (0 ∷ 1 ∷ 3 ∷ 4 ∷ []) $ by ! (exits (s .0 .own) (s .1) (LL.owed J.the-type J′.the-laws (s .0) _ (inv .is) .1 .1 .1 .1 .0 .1) (inv .long) (inv .worked (s .1) (s .0 .own) (all-made (nltb→le (s .0 .step) (s .0 .steps) large))))))
 
   walk : (𝓣 : Tables 𝓤 H) (known-begin : Triple 𝓤 (𝓣 .C #begin) (Begin 𝓤 H A mem run)) (known-sweep : Triple 𝓤 (𝓣 .C #sweep) (Sweep 𝓤 H A mem run)) (known-end : Triple 𝓤 (𝓣 .C #end) (End 𝓤 H A mem run)) → Room T.the-row m-run → Room u32 (length (t-types .now)) → Able (t-types .now) job ys-run → ent 𝓤 (onEntry 𝓤 H A f.signature (κ-run, (κ-types, tt)) (q-run, (q-types, tt)) handed machine) (WpFn 𝓤 H (𝓣 .C) (𝓣 .Λ) code.function (sliceVal (b-run, o-run) m-run ∷ sliceVal (t-types .ptr) (length (t-types .now)) ∷ LL.val J.the-type J′.the-laws job ∷ []) Post)
@@ -169,6 +169,6 @@ work-spec 𝓤 H 𝓜 𝓖 𝓡 =
     entered 𝓤 H (tripleOf 𝓤 H (𝓖 .A) f.signature (f.spec 𝓤 H (𝓖 .A) (𝓜 .mem) (𝓡 .run)))
     (tables 𝓤 H 𝓜 𝓡 code.env .C) (tables 𝓤 H 𝓜 𝓡 code.env .Λ) #work code.function (code.unfolded 𝓤 H 𝓜 𝓡)
     (work-meets 𝓤 H (𝓖 .A) (givenOf 𝓤 H 𝓜 𝓖) (𝓜 .mem) (𝓡 .run) (tablesOf 𝓤 H 𝓜 (tables 𝓤 H 𝓜 𝓡 code.env))
-    (cited 𝓤 H (Begin 𝓤 H (𝓖 .A) (𝓜 .mem) (𝓡 .run)) 𝓜 𝓡 code.env #begin begin-def.routine code.calls-jobs·begins·begin (begin-thm.met 𝓤 H 𝓜 𝓖 𝓡))
+    (cited 𝓤 H (Begin 𝓤 H (𝓖 .A) (𝓜 .mem) (𝓡 .run)) 𝓜 𝓡 code.env #begin begin-def.routine code.calls-stages·begins·begin (begin-thm.met 𝓤 H 𝓜 𝓖 𝓡))
     (cited 𝓤 H (Sweep 𝓤 H (𝓖 .A) (𝓜 .mem) (𝓡 .run)) 𝓜 𝓡 code.env #sweep sweep-def.routine code.calls-runs·passes·sweep (sweep-thm.met 𝓤 H 𝓜 𝓖 𝓡))
-    (cited 𝓤 H (End 𝓤 H (𝓖 .A) (𝓜 .mem) (𝓡 .run)) 𝓜 𝓡 code.env #end end-def.routine code.calls-jobs·ends·end (end-thm.met 𝓤 H 𝓜 𝓖 𝓡)))
+    (cited 𝓤 H (End 𝓤 H (𝓖 .A) (𝓜 .mem) (𝓡 .run)) 𝓜 𝓡 code.env #end end-def.routine code.calls-stages·ends·end (end-thm.met 𝓤 H 𝓜 𝓖 𝓡)))

@@ -1,5 +1,5 @@
 -- `records::tell` meets its contract. Assumes nothing.
-use Rattle.chosen.specs.Chosen.{four-written}
+use Rattle.picked.specs.Picked.{four-written}
 use lib.ListN.{length-set}
 use mathlib.Core.Path.{refl}
 use native.Mathlib.Omega.{arith}

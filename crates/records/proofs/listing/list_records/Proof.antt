@@ -2,7 +2,7 @@
 -- Assumes nothing.
 use mathlib.Core.Path.{_≡_, refl, sym, subst}
 use mathlib.Core.Bool.{Bool, true, false, not}
-use Prim.Native.Nat.{ℕ, _<_, _^_, _-_}
+use Prim.Native.Nat.{ℕ, _<_, _^_}
 use mathlib.Core.List.{List, [], _∷_}
 use lib.Dec.{T as Holds}
 use lib.IntN.{ℤ}
@@ -52,7 +52,7 @@ use Rattle.rules.proofs.Listing as Z
 use Rattle.rules.proofs.Listing.Laws as Z′
 use Rattle.rules.specs.Promises.{ListPromise, records}
 use Rattle.laws.specs.Checked.{tablesOf as netOf, countsOf}
-use Rattle.chosen.specs.Chosen.{lentOf}
+use Rattle.chosen.specs.Lent.{lentOf}
 use Rattle.records.specs.Listed.{list-asks, list-done}
 use Rattle.rules.specs.declared.Cand.{Cand}
 use Rattle.rules.proofs.Cand as T
