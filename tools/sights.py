@@ -119,7 +119,7 @@ use Rattle.sights.proofs.Local.{apart, together}
 
 if __name__ == "__main__":
     mir = parse(open(sys.argv[1]).read())
-    use = f"use lib.ListN.{{getD}}\nuse Rattle.rules.specs.Quantities.{{rowsRoom}}\nuse Rattle.laws.specs.Tabled.{{rowsFrom}}\nuse Rattle.rows.specs.Links.{{linksRoom, nextAt, Standing, Earlier, Links}}\nuse Rattle.jobs.specs.Jobs.{{RowIn}}\nuse {SPECS}Hanging.{{firstAt, nextOf, Hangs, Hung, Follows, Sees, Seen, Makes}}\n"
+    use = f"use lib.ListN.{{getD}}\nuse Rattle.rules.specs.Quantities.{{rowsRoom}}\nuse Rattle.rooms.specs.Links.{{nextAt, linksRoom}}\nuse Rattle.laws.specs.Tabled.{{rowsFrom}}\nuse Rattle.rows.specs.Links.{{Standing, Earlier, Links}}\nuse Rattle.jobs.specs.Jobs.{{RowIn}}\nuse {SPECS}Hanging.{{firstAt, nextOf, Hangs, Hung, Follows, Sees, Seen, Makes}}\n"
     HERE.package("SightCalls", "over the table", RUN_TYPES + LEND + use, CALLEES)
     recursion(mir)
     make(mir)

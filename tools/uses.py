@@ -7,7 +7,7 @@ import re
 import sys
 
 CRATES = os.path.join(os.path.dirname(__file__), "../crates/")
-# `use PATH.{a, b as c}` and `use PATH as c` in specs, proofs and, behind `ghost`, in code; `use path::C` in code
+# `use PATH.{a, b as c}` and `use PATH as c` in specs, proofs and, after `ghost`, in code; `use path::C` in code
 NAMES = re.compile(r"((?:ghost )?use [^{]*\.\{)(.*)(\};?)$")
 MODULE = re.compile(r"(?:ghost )?use \S+ as (\S+?);?$")
 ITEM = re.compile(r"use [\w:]+::(\w+);$")

@@ -1,6 +1,6 @@
 //! Holds any implementation of the entries against the reference: the answer, and every word of
-//! every lent area, the part beyond its room included. The one thing left open is which of several
-//! placements with the same pair a planner returns.
+//! every lent area, the part beyond its room included. Of several placements with the same pair a
+//! planner has to return the one that the reference has: ties at a site go to what stands.
 
 use crate::entries::{Candidate, Columns, Counts, Entries, Planned, Records, TableWords, Tables};
 use crate::net::{Placement, Refusal};
@@ -125,7 +125,7 @@ pub fn plan_net(subject: &impl Entries, tables: Tables, before: &Areas) -> Outco
     }
     let got = run(before, |areas| plan(subject, tables, areas));
     let expected = run(before, |areas| plan(&Reference, tables, areas));
-    planned_alike("plan_net", tables, got, expected)
+    same("plan_net", &got, &expected)
 }
 
 /// Takes the planner alone, for one that has no other entry.
@@ -137,25 +137,7 @@ pub fn plan_records(
     let got = run(before, |a| planner(tables, &mut a.placement, &mut a.records));
     let expected =
         run(before, |a| Reference.plan_records(tables, &mut a.placement, &mut a.records));
-    planned_alike("plan_records", tables, got, expected)
-}
-
-/// A planner's answer and areas: equal but for the placement, which must be legal and have the
-/// slack and load that were claimed.
-fn planned_alike(
-    what: &str,
-    tables: Tables,
-    (got, mut after): (Result<Planned, Refusal>, Areas),
-    (expected, expected_after): (Result<Planned, Refusal>, Areas),
-) -> Outcome {
-    same(what, &got, &expected)?;
-    if got.is_ok() {
-        let has = Reference.slack_of(tables, &after.placement);
-        same(&format!("{what}: slack and load of its placement"), &has, &got)?;
-        let settled = &expected_after.placement[..room::PLACEMENT];
-        after.placement[..room::PLACEMENT].copy_from_slice(settled);
-    }
-    same(&format!("{what}: lent areas"), &after, &expected_after)
+    same("plan_records", &got, &expected)
 }
 
 /// Every entry on one net given as tables, at areas of these lengths, and the list at every row and

@@ -9,6 +9,7 @@
 //! - [`cases`]: the fixed cases behind `vectors/read.txt` and `vectors/plan.txt`
 //! - [`nets`]: the example nets
 //! - [`conformance`]: holds any implementation of the entries against the reference
+//! - [`made`]: how a test runs what `rt` makes
 //! - `linked`, with the feature of that name: the proved library behind safe calls
 //!
 //! Everything here is safe Rust over the standard library alone but for `linked`, which calls C.
@@ -20,6 +21,7 @@ pub mod conformance;
 pub mod entries;
 #[cfg(feature = "linked")]
 pub mod linked;
+pub mod made;
 pub mod net;
 pub mod nets;
 pub mod random;

@@ -27,6 +27,11 @@ pub const EXAMPLES: &[Example] = &[
         recipe: r#""T\t2\t3\t20\nD\t1\nW\t0\t4\t5\t1\nS\t1\t6\t7\t0\t8\t1000\n""#,
     },
     Example {
+        file: "needless.net",
+        what: "A repeater that was worth its place at its own row and is needless further up: with the one at row 1 that of row 2 gains nothing, and both are placed.",
+        recipe: r#""T\t2\t0\t0\nD\t1\nW\t0\t0\t0\t1\nS\t1\t0\t10\t1\t5\t1000\n""#,
+    },
+    Example {
         file: "crack.net",
         what: "A branch where the choice in the middle of a list is the good one: pruning to the convex hull throws it away and is left with 6.",
         recipe: r#""T\t1\t0\t100\nT\t2\t0\t90\nD\t1\nS\t0\t0\t0\t1\t3\t100\nS\t0\t0\t0\t0\t1\t10\n""#,

@@ -1,10 +1,10 @@
-//! The reference behind its own entries, and the judge itself: an implementation with a known
+//! The reference as its own entries, and the judge itself: an implementation with a known
 //! fault must be told apart. `linked.rs` tests the proved library in the same way.
 
 use zombrict::conformance::{self, Areas};
 use zombrict::random::{damage_tables, damage_text, Lengths, Random, Sketch};
 use zombrict::reference::Reference;
-use zombrict::{Candidate, Columns, Counts, Entries, Planned, Records, Refusal, Tables};
+use zombrict::{room, Candidate, Columns, Counts, Entries, Planned, Records, Refusal, Tables};
 
 /// One round over texts, tables and areas of every kind.
 fn round(subject: &impl Records, random: &mut Random) -> conformance::Outcome {
@@ -43,6 +43,21 @@ enum Fault {
     PlaceOff,
     ReadTooMuch,
     PlacementUnwritten,
+    TieTurned,
+}
+
+/// Another placement with the same slack and load, where one mark less or changed has them.
+fn turn_tie(tables: Tables, placement: &mut [u64], planned: Planned) {
+    let marks =
+        (0..16 * room::PLACEMENT).flat_map(|site| (0..=room::TYPES).map(move |m| (site, m)));
+    for (site, mark) in marks {
+        let mut other = placement.to_vec();
+        let shift = 4 * (site % 16);
+        other[site / 16] = other[site / 16] & !(15 << shift) | (mark as u64) << shift;
+        if other != placement && Reference.slack_of(tables, &other) == Ok(planned) {
+            return placement.copy_from_slice(&other);
+        }
+    }
 }
 
 impl Entries for Faulty {
@@ -82,6 +97,9 @@ impl Entries for Faulty {
         planned.slack += i64::from(self.0 == Fault::SlackClaimed);
         if self.0 == Fault::PlacementUnwritten {
             placement.copy_from_slice(&former);
+        }
+        if self.0 == Fault::TieTurned {
+            turn_tie(tables, placement, planned);
         }
         Ok(planned)
     }
@@ -132,6 +150,7 @@ fn each_fault_is_found() {
         Fault::PlaceOff,
         Fault::ReadTooMuch,
         Fault::PlacementUnwritten,
+        Fault::TieTurned,
     ];
     for fault in faults {
         let mut random = Random::new(22);

@@ -153,8 +153,9 @@ fn text_alike(text: &[u8], random: &mut Random) {
             let tables = net.tables();
             assert_eq!(slack, Reference.slack_of(tables.lent(), &marks.0), "{}", net.text());
             let planned = planned.expect("not refused");
-            let best = reference::plan(net).pair;
-            assert_eq!((planned.slack, planned.load as i64), (best.time, best.load));
+            let best = reference::plan(net);
+            assert_eq!((planned.slack, planned.load as i64), (best.pair.time, best.pair.load));
+            assert_eq!(areas.placement[..room::PLACEMENT], best.placement.0, "{}", net.text());
             let has = Reference.slack_of(tables.lent(), &areas.placement);
             assert_eq!(has, Ok(planned), "{}", net.text());
             if row < net.rows().len() {

@@ -2,20 +2,19 @@
 //! `target/bin/planner`, which `rt check planner` makes.
 
 use std::io::Write;
-use std::path::{Path, PathBuf};
 use std::process::{Command, Stdio};
 use zombrict::random::{damage_text, Random, Sketch, Tree, Values};
-use zombrict::{cases, nets, recipe, reference, room, Net, Placement};
+use zombrict::{cases, made, nets, recipe, room};
 
-fn program() -> PathBuf {
-    let path = Path::new(env!("CARGO_MANIFEST_DIR")).join("../target/bin/planner");
+fn program() -> Command {
+    let path = made::top().join("target/bin/planner");
     assert!(path.exists(), "no target/bin/planner: run `rt check planner`");
-    path
+    made::command(&path)
 }
 
 /// What the program writes. It may stop reading before the end, so a broken pipe is no failure.
 fn run(text: &[u8]) -> String {
-    let mut command = Command::new(program());
+    let mut command = program();
     let mut child = command.stdin(Stdio::piped()).stdout(Stdio::piped()).spawn().expect("runs");
     let mut input = child.stdin.take().expect("piped");
     let text = text.to_vec();
@@ -26,41 +25,9 @@ fn run(text: &[u8]) -> String {
     String::from_utf8(output.stdout).expect("ASCII")
 }
 
-/// The lines for a placement, from the figures of the reference.
-fn lines(net: &Net, placement: Placement) -> String {
-    let pair = reference::plan(net).pair;
-    let mut lines = format!("slack {}\nload {}\n", pair.time, pair.load);
-    for (row, mark) in placement.repeaters(net) {
-        lines += &format!("buffer {row} {mark}\n");
-    }
-    lines
-}
-
-/// The placement that the `buffer` lines name.
-fn placement_of(output: &str, net: &Net) -> Option<Placement> {
-    let mut placement = Placement::NONE;
-    let sites = net.sites();
-    for line in output.lines().skip(2) {
-        let (row, mark) = line.strip_prefix("buffer ")?.split_once(' ')?;
-        let row: usize = row.parse().ok()?;
-        placement = placement.with((*sites.get(row)?)?, mark.parse().ok()?);
-    }
-    Some(placement)
-}
-
 #[track_caller]
 fn as_due(text: &[u8]) {
-    let output = run(text);
-    let shown = String::from_utf8_lossy(text);
-    let net = match Net::read(text) {
-        Err(refusal) => return assert_eq!(output, format!("{refusal}\n"), "{shown}"),
-        Ok(net) => net,
-    };
-    let placement = placement_of(&output, &net).unwrap_or_else(|| panic!("{output}\n{shown}"));
-    assert_eq!(output, lines(&net, placement), "{shown}");
-    assert_eq!(reference::legal(&net, placement), Ok(()), "{output}\n{shown}");
-    let has = reference::slack_of(&net, placement).expect("legal");
-    assert_eq!(has, reference::plan(&net).pair, "{output}\n{shown}");
+    assert_eq!(run(text), nets::program_output(text), "{}", String::from_utf8_lossy(text));
 }
 
 #[test]
@@ -124,7 +91,7 @@ fn noise() {
 #[test]
 fn slow_input() {
     let text = recipe::make(nets::EXAMPLES.iter().find(|e| e.file == "strobe.net").unwrap().recipe);
-    let mut command = Command::new(program());
+    let mut command = program();
     let mut child = command.stdin(Stdio::piped()).stdout(Stdio::piped()).spawn().expect("runs");
     let mut input = child.stdin.take().expect("piped");
     for piece in text.chunks(997) {

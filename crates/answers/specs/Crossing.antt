@@ -1,5 +1,4 @@
--- How an answer crosses to a caller that has numbers and areas only: the refusal's number is returned, and its place and the entry's
--- two values stand at the start of the answer's area. Assumes nothing.
+-- How an answer is told: three words at the start of the answer's area, and what they say of the call. Assumes nothing.
 use mathlib.Core.Path.{_≡_, refl, sym, ap, subst, _∙_}
 use mathlib.Core.Bool.{Bool, true, false}
 use mathlib.Core.List.{List, [], _∷_}
@@ -11,38 +10,10 @@ use lib.ListN.{length, set}
 use borrow.Author.Tests.{lt-ltb, le-ltb}
 use Rattle.rules.specs.declared.Refusal.{Refusal}
 use Rattle.rules.specs.Lists.{written}
-use Rattle.rules.specs.Tables.{Counts}
 use Rattle.rules.specs.Refusals.{numberOf, placeOf}
-use Rattle.rules.specs.Answers.{Figures, Timing, refused, done}
+use Rattle.rules.specs.Answers.{Figures, refused, done}
+use Rattle.rules.specs.Calls.{answerRoom, Crossed, Called, refuses, answers}
 
--- room: words of an answer
-abbrev pub answerRoom : ℕ
-answerRoom = 3
-
--- an entry's values as two words
-abbrev pub countWords : Counts → List ℤ
-countWords v = pos (v .types) ∷ pos (v .rows) ∷ []
-
-abbrev pub noWords : Unit {0} → List ℤ
-noWords v = pos 0 ∷ pos 0 ∷ []
-
-abbrev pub timingWords : Timing → List ℤ
-timingWords v = v .slack ∷ pos (v .load) ∷ []
-
-abbrev pub lengthWords : ℕ → List ℤ
-lengthWords n = pos n ∷ pos 0 ∷ []
-
--- what is returned and written for the figures of an answer; the part of the area beyond its room is unchanged
-pub record Crossed {A : Type 0} (words : A → List ℤ) (f : Figures A) (before after : List ℤ) (r : ℕ) : Type 0 where
-  pub number-is : r ≡ f .number
-  pub area-is : after ≡ written (pos (f .place) ∷ words (f .values)) before
-
--- an answer's area that is too short is refused before anything is done; else the entry is called
-pub data Called (untouched promised : Type 0) : (short : Bool) → Type 0 where
-  refuses : untouched → Called untouched promised true
-  answers : promised → Called untouched promised false
-
--- ---- laws
 -- three words stored at the start of an area
 pub three-written : (l : List ℤ) (a b c : ℤ) → answerRoom ≤ length l → set (set (set l 0 a) 1 b) 2 c ≡ written (a ∷ b ∷ c ∷ []) l
 unfolding written

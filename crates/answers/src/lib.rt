@@ -1,5 +1,6 @@
 // How an answer crosses to a caller that has numbers and areas only: the number of a refusal is returned, 0 where there is none, and
 // its place and the entry's two values stand in the answer's area.
+use rooms::ANSWER_ROOM;
 use rules::Checking;
 use rules::Listing;
 use rules::Planning;
@@ -14,13 +15,7 @@ ghost use lib.ListN.{length};
 ghost use Rattle.rules.specs.Lists.{written};
 ghost use Rattle.rules.specs.Refusals.{numberOf, placeOf};
 ghost use Rattle.rules.specs.Answers.{readFigures, checkFigures, slackFigures, planFigures, listFigures};
-ghost use Rattle.answers.specs.Crossing.{answerRoom, countWords, noWords, timingWords, lengthWords, Crossed};
-
-// Room: words of an answer.
-const ANSWER_ROOM: usize = 3;
-
-// The refusal of an area shorter than its room.
-const SHORT: u32 = 7;
+ghost use Rattle.rules.specs.Calls.{answerRoom, countWords, noWords, timingWords, lengthWords, Crossed};
 
 // How many words the area of an answer has at least.
 pub fn room() -> usize
@@ -31,12 +26,13 @@ pub fn room() -> usize
 
 // What is returned where it has fewer: the one refusal that is told by its number alone.
 pub fn short() -> u32
-    ensures { λ r. ⌜ r ≡ 7 ⌝ }
+    ensures { λ r. ⌜ r ≡ numberOf Refusal.Short ⌝ }
 {
-    SHORT
+    refusals::number_of(Refusal::Short)
 }
 
-fn wide(x: u32) -> i64
+// A number as a word of the answer.
+fn word(x: u32) -> i64
     ensures { λ r. ⌜ r ≡ pos x ⌝ }
 {
     x as i64
@@ -63,7 +59,7 @@ pub fn tell_refusal(answer: &mut [i64], r: Refusal) -> u32
     requires { ⌜ answerRoom ≤ length (now answer) ⌝ }
     ensures { λ n. ⌜ (n ≡ numberOf r) × (now (answer .exit) ≡ written (pos (placeOf r) ∷ pos 0 ∷ pos 0 ∷ []) (now (answer .entry))) ⌝ }
 {
-    put(answer, wide(refusals::place_of(r)), 0, 0);
+    put(answer, word(refusals::place_of(r)), 0, 0);
     refusals::number_of(r)
 }
 
@@ -72,7 +68,7 @@ pub fn tell_reading(answer: &mut [i64], a: Reading) -> u32
     ensures { λ n. ⌜ Crossed countWords (readFigures a) (now (answer .entry)) (now (answer .exit)) n ⌝ }
 {
     match a {
-        Reading::Read { types, rows } => tell(answer, wide(types), wide(rows)),
+        Reading::Read { types, rows } => tell(answer, word(types), word(rows)),
         Reading::Refused(r) => tell_refusal(answer, r),
     }
 }
@@ -92,7 +88,7 @@ pub fn tell_slacking(answer: &mut [i64], a: Slacking) -> u32
     ensures { λ n. ⌜ Crossed timingWords (slackFigures a) (now (answer .entry)) (now (answer .exit)) n ⌝ }
 {
     match a {
-        Slacking::Slack { slack, load } => tell(answer, slack.0, wide(load.0)),
+        Slacking::Slack { slack, load } => tell(answer, slack.0, word(load.0)),
         Slacking::Refused(r) => tell_refusal(answer, r),
     }
 }
@@ -102,7 +98,7 @@ pub fn tell_planning(answer: &mut [i64], a: Planning) -> u32
     ensures { λ n. ⌜ Crossed timingWords (planFigures a) (now (answer .entry)) (now (answer .exit)) n ⌝ }
 {
     match a {
-        Planning::Planned { slack, load } => tell(answer, slack.0, wide(load.0)),
+        Planning::Planned { slack, load } => tell(answer, slack.0, word(load.0)),
         Planning::Refused(r) => tell_refusal(answer, r),
     }
 }
@@ -112,7 +108,7 @@ pub fn tell_listing(answer: &mut [i64], a: Listing) -> u32
     ensures { λ n. ⌜ Crossed lengthWords (listFigures a) (now (answer .entry)) (now (answer .exit)) n ⌝ }
 {
     match a {
-        Listing::Listed { length } => tell(answer, wide(length), 0),
+        Listing::Listed { length } => tell(answer, word(length), 0),
         Listing::Refused(r) => tell_refusal(answer, r),
     }
 }

@@ -35,7 +35,7 @@ pub fn read(
     )
 }
 
-// n: how many words of the placement are lent, and its four words. Behind them stand two more, which nobody may read.
+// n: how many words of the placement are lent, and its four words. Past them stand two more, which nobody may read.
 pub fn slack(
     types: &[u32],
     rows: &[u32],

@@ -19,7 +19,7 @@ pub fn stamp(loads: &mut [u32], times: &mut [i64], words: &mut [u64]) {
     stamps::set_marks(words);
 }
 
-// A refusal leaves the whole area as it was, any other answer what is behind its room.
+// A refusal leaves the whole area as it was, any other answer what is past its room.
 pub fn seen(loads: &[u32; WORK], times: &[i64; WORK], words: &[u64; WORDS], refused: bool) -> Left {
     Left {
         kept: stamps::work_kept(loads, times, words, refused),

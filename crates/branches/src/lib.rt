@@ -3,14 +3,14 @@
 use columns::cells;
 use columns::moves;
 ghost use Prim.Native.Nat.{_+_};
-ghost use Rattle.laws.specs.Joining.{join};
+ghost use Rattle.laws.specs.Joining.{joinMarks};
 ghost use Rattle.laws.specs.Steps.{merge};
 ghost use Rattle.columns.specs.Parts.{part};
 ghost use Rattle.columns.specs.Run.{run};
 ghost use Rattle.columns.specs.Made.{Room, Gives};
 ghost use Rattle.branches.specs.Branching.{Pair, Merged};
 
-// Two lists, the second behind the first at `at`: their joined list, written behind both; its end.
+// Two lists, the second after the first at `at`: their joined list, written past both; its end.
 pub fn merge_lists(
     loads: &mut [u32],
     times: &mut [i64],
@@ -39,7 +39,7 @@ pub fn merge_lists(
     o
 }
 
-// Two lists, the second behind the first at `at`, become their joined list there; its length.
+// Two lists, the second after the first at `at`, become their joined list there; its length.
 pub fn join_lists(
     loads: &mut [u32],
     times: &mut [i64],
@@ -50,7 +50,7 @@ pub fn join_lists(
 ) -> usize
     requires { ⌜ Room (now loads) (now times) (now words) ⌝ }
     requires { ⌜ Pair (run (now loads) (now times) (now words)) at m n ⌝ }
-    ensures { λ count. ⌜ Gives (run (now (loads .entry)) (now (times .entry)) (now (words .entry))) (run (now (loads .exit)) (now (times .exit)) (now (words .exit))) at count (merge join (part (at + m) (at + m + n) (run (now (loads .entry)) (now (times .entry)) (now (words .entry)))) (part at (at + m) (run (now (loads .entry)) (now (times .entry)) (now (words .entry))))) ⌝ }
+    ensures { λ count. ⌜ Gives (run (now (loads .entry)) (now (times .entry)) (now (words .entry))) (run (now (loads .exit)) (now (times .exit)) (now (words .exit))) at count (merge joinMarks (part (at + m) (at + m + n) (run (now (loads .entry)) (now (times .entry)) (now (words .entry)))) (part at (at + m) (run (now (loads .entry)) (now (times .entry)) (now (words .entry))))) ⌝ }
 {
     let end = at + m + n;
     let o = merge_lists(loads, times, words, at, m, n);

@@ -6,7 +6,7 @@ const LINE_FEED: u8 = b'\n';
 
 const BLANK: u8 = b' ';
 
-// A line's numbers: how many, and the place behind the line.
+// A line's numbers: how many, and the place past the line.
 pub enum Line {
     Of(usize, usize),
     Bad,
@@ -27,7 +27,7 @@ pub fn word_end(s: &[u8], from: usize) -> usize {
     i
 }
 
-// The end of a line behind so many numbers.
+// The end of a line after so many numbers.
 pub fn line_end(s: &[u8], at: usize, count: usize) -> Line {
     if s.len() <= at {
         return Line::Bad;
@@ -38,7 +38,7 @@ pub fn line_end(s: &[u8], at: usize, count: usize) -> Line {
     Line::Bad
 }
 
-// The number behind a blank.
+// The number after a blank.
 fn next_number(s: &[u8], at: usize) -> Number {
     if s.len() <= at {
         return Number::Bad;
@@ -49,7 +49,7 @@ fn next_number(s: &[u8], at: usize) -> Number {
     Number::Bad
 }
 
-// The numbers behind a word up to the line feed, at most six.
+// The numbers after a word up to the line feed, at most six.
 pub fn numbers_at(s: &[u8], from: usize, n: &mut [u64; 6]) -> Line {
     let mut at = from;
     let mut i = 0;
@@ -64,8 +64,8 @@ pub fn numbers_at(s: &[u8], from: usize, n: &mut [u64; 6]) -> Line {
     line_end(s, at, i)
 }
 
-// The place behind so many bytes and a line feed.
-pub fn behind(s: &[u8], from: usize, length: usize) -> Line {
+// The place after so many bytes and a line feed.
+pub fn past(s: &[u8], from: usize, length: usize) -> Line {
     if s.len() < from {
         return Line::Bad;
     }

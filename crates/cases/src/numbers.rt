@@ -13,13 +13,13 @@ const MOST: u64 = 18_446_744_073_709_551_615;
 
 const MOST_TIME: u64 = 9_223_372_036_854_775_807;
 
-// A number, with the place behind it.
+// A number, with the place after it.
 pub enum Number {
     At(u64, usize),
     Bad,
 }
 
-// A signed number, with the place behind it.
+// A signed number, with the place after it.
 pub enum Time {
     At(i64, usize),
     Bad,
@@ -52,7 +52,7 @@ fn grown(n: u64, d: u64, next: usize) -> Number {
     Number::At(tens + d, next)
 }
 
-// The digits from a place on, behind those already read.
+// The digits from a place on, after those already read.
 fn rest(s: &[u8], first: u64, from: usize) -> Number {
     let mut n = first;
     let mut i = from;

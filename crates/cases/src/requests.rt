@@ -8,7 +8,7 @@ use places::Place;
 use places::Step;
 use words::Word;
 
-// A request that is over, as the naming of a case is, or one still to be done: its word, and the place behind its line.
+// A request that is over, as the naming of a case is, or one still to be done: its word, and the place after its line.
 pub enum Request {
     Over(Step),
     Of(Word, Place),

@@ -27,7 +27,7 @@ pub fn named(s: &[u8], p: Place, end: usize) -> Step {
 
 fn bytes(s: &[u8], p: Place, times: u64, length: u64, text: &mut [u8]) -> Step {
     let at = p.at;
-    let Line::Of(_, next) = lines::behind(s, at, length as usize) else {
+    let Line::Of(_, next) = lines::past(s, at, length as usize) else {
         return Step::Bad;
     };
     let Taken::Up(end) = tables::add_times(s, at, length as usize, text, p.text, times as usize)

@@ -6,13 +6,13 @@ use numbers::Time;
 
 const MOST_WORD: u64 = 4_294_967_295;
 
-// Where the request behind the words starts.
+// Where the request after the words starts.
 pub enum Taken {
     Up(usize),
     Bad,
 }
 
-// A word, with the place behind the byte that ends it.
+// A word, with the place after the byte that ends it.
 enum Word {
     At(u32, usize),
     Bad,

@@ -1,6 +1,6 @@
 // The words of the requests, and how many numbers each has.
 use lending::stamps;
-ghost use Prim.Native.Nat.{_<_};
+use rooms::wide;
 
 // The words of the requests, each as the number that its bytes make.
 const CASE: u64 = 0x63617365;
@@ -56,12 +56,6 @@ pub enum Word {
     None,
 }
 
-fn wide(b: u8) -> u64
-    ensures { λ r. ⌜ r < 256 ⌝ }
-{
-    b as u64
-}
-
 // The bytes of a stretch as one number, 0 where they are too many: so a word is known by one comparison.
 pub fn code(s: &[u8], from: usize, to: usize) -> u64 {
     let end = stamps::least(to, s.len());
@@ -71,7 +65,7 @@ pub fn code(s: &[u8], from: usize, to: usize) -> u64 {
         if MOST_CODE < n {
             return 0;
         }
-        n = 256 * n + wide(s[i]);
+        n = 256 * n + wide::byte(s[i]);
         i += 1;
     }
     n

@@ -1,22 +1,23 @@
 -- The checks of one line by number: from how many types, rows and sites have passed and the words of the rows among them. Assumes nothing.
 use mathlib.Core.Bool.{Bool, true, false, cond, _&&_, _||_}
 use mathlib.Core.List.{List}
-use mathlib.Core.Option.{Option, none, some}
+use mathlib.Core.Option.{Option, none, some, orElse}
 use Prim.Native.Nat.{ℕ, _+_, _*_, _≤_}
 use lib.Dec.{ltb, leb, eqb}
 use lib.IntN.{pos}
 use lib.ListN.{getD}
 use lib.Signed.{ltZ}
+use Rattle.rules.specs.Tables.{rowWords, sinkKind}
 use Rattle.rules.specs.declared.Pin.{Pin}
 use Rattle.rules.specs.declared.Refusal.{Refusal}
 use Rattle.rules.specs.declared.Refusal.the-variants.{Form, Range, Room, Parent}
 use Rattle.rules.specs.declared.Checking.{Checking}
 use Rattle.rules.specs.declared.Checking.the-variants.{Accepted}
 use Rattle.rules.specs.declared.Checking.the-variants.{Refused as NotAccepted}
-use Rattle.rules.specs.Lists.{orElse, when}
+use Rattle.rules.specs.Lists.{givenWhen}
 use Rattle.rules.specs.Quantities.{mostOhms, mostFemtofarads, mostOwn, earliestDue, latestDue, typesRoom, rowsRoom, sitesRoom}
 use Rattle.rules.specs.Refusals.{wireOut}
-use Rattle.checks.specs.declared.Repeater.{Repeater}
+use Rattle.repeaters.specs.declared.Buffer.{Buffer}
 use Rattle.checks.specs.declared.Wire.{Wire}
 use Rattle.checks.specs.declared.Passed.{Passed}
 use Rattle.checks.specs.declared.Line.{Line}
@@ -33,16 +34,16 @@ pub record FewPassed (n : Passed) : Type 0 where
   pub rows : n .rows ≤ rowsRoom
   pub sites : n .sites ≤ sitesRoom
 
--- the line behind those that have passed
+-- the line after those that have passed
 abbrev pub placeAt : Passed → ℕ
 placeAt n = n .types + n .rows + 1
 
 -- in one line 1, 2, 3, 4
 abbrev pub firstOf : (form range room parent : Bool) (place : ℕ) → Option Refusal
 firstOf form range room parent place =
-    orElse (when form (Form place)) (orElse (when range (Range place)) (orElse (when room (Room place)) (when parent (Parent place))))
+    orElse (givenWhen form (Form place)) (orElse (givenWhen range (Range place)) (orElse (givenWhen room (Room place)) (givenWhen parent (Parent place))))
 
-abbrev pub typeOut : Repeater → Bool
+abbrev pub typeOut : Buffer → Bool
 typeOut t = ltb mostFemtofarads (t .input .0) || (ltb mostOhms (t .resistance .0) || ltZ (pos mostOwn) (t .own .0))
 
 abbrev pub wireOutOf : Wire → Bool
@@ -56,7 +57,7 @@ manyRows n site = leb rowsRoom (n .rows) || (eqb site 1 && leb sitesRoom (n .sit
 
 -- the words of the rows say which of them are sinks: kind 2
 abbrev pub noParentIn : (rows : List ℕ) (count parent : ℕ) → Bool
-noParentIn rows count parent = cond (ltb parent count) (eqb (getD rows (6 * parent) 0) 2) true
+noParentIn rows count parent = cond (ltb parent count) (eqb (getD rows (rowWords * parent) 0) sinkKind) true
 
 abbrev pub checkOf : (rows : List ℕ) → Passed → Line → Checking
 checkOf rows n (TypeLine t) = checking (firstOf (ltb 0 (n .rows)) (typeOut t) (leb typesRoom (n .types)) false (placeAt n))

@@ -1,19 +1,12 @@
-// One line by value: what it states, and the first of 1, 2, 3, 4 that it is refused for behind those that have passed.
+// One line by value: what it states, and the first of 1, 2, 3, 4 that it is refused for after those that have passed.
+use repeaters::Buffer;
 use rules::Femtofarad;
-use rules::Femtosecond;
 use rules::Ohm;
 use rules::Pin;
 use rules::Refusal;
 
 pub mod lines;
 pub mod ranges;
-
-// A type of repeater.
-pub struct Repeater {
-    pub input: Femtofarad,
-    pub resistance: Ohm,
-    pub own: Femtosecond,
-}
 
 // The wire of a row: the row above it, and what is there. The site is still a field's number.
 pub struct Wire {
@@ -25,7 +18,7 @@ pub struct Wire {
 
 // What a line states, or the refusal of its form.
 pub enum Line {
-    Repeater(Repeater),
+    Repeater(Buffer),
     Driver(Ohm),
     Point(Wire),
     Sink(Wire, Pin),

@@ -1,16 +1,17 @@
 // The checks of one line after those that have passed, shared by texts and tables: in one line 1, 2, 3, 4.
 use super::Line;
 use super::Passed;
-use super::Repeater;
 use super::Wire;
-use super::ranges::MOST_OHMS;
 use super::ranges::sink_out;
 use super::ranges::type_out;
 use super::ranges::wire_out;
+use repeaters::Buffer;
 use rooms::ROW_WORDS;
 use rooms::ROWS_ROOM;
 use rooms::SITES_ROOM;
 use rooms::TYPES_ROOM;
+use rooms::ranges::MOST_OHMS;
+use rooms::words::SINK;
 use rules::Checking;
 use rules::Ohm;
 use rules::Refusal;
@@ -19,10 +20,11 @@ ghost use mathlib.Core.Bool.{false};
 ghost use Prim.Native.Nat.{_+_, _*_, _≤_, _<_};
 ghost use lib.Dec.{ltb, leb, eqb};
 ghost use lib.ListN.{length};
-ghost use Rattle.rules.specs.Quantities.{mostOhms};
+ghost use Rattle.rules.specs.Tables.{rowWords};
+ghost use Rattle.rules.specs.Quantities.{mostOhms, rowsRoom, typesRoom};
 ghost use Rattle.checks.specs.Checks.{checking, firstOf, typeOut, manyRows, noParentIn, placeAt, checkOf, FewPassed};
 
-// The number of the line behind those that have passed.
+// The number of the line after those that have passed.
 pub fn place_of(n: Passed) -> u32
     requires { ⌜ FewPassed n ⌝ }
     ensures { λ r. ⌜ r ≡ placeAt n ⌝ }
@@ -63,19 +65,19 @@ fn many_rows(n: Passed, site: u32) -> bool
 }
 
 fn no_parent(rows: &[u32], count: usize, parent: u32) -> bool
-    requires { ⌜ (count ≤ 256) × (6 * count ≤ length (now rows)) ⌝ }
+    requires { ⌜ (count ≤ rowsRoom) × (rowWords * count ≤ length (now rows)) ⌝ }
     ensures { λ r. ⌜ r ≡ noParentIn (now (rows .entry)) count parent ⌝ }
 {
     let above = parent as usize;
     if count <= above {
         return true;
     }
-    rows[ROW_WORDS * above] == 2
+    rows[ROW_WORDS * above] == SINK
 }
 
-pub fn check_type(n: Passed, t: Repeater) -> Checking
+pub fn check_type(n: Passed, t: Buffer) -> Checking
     requires { ⌜ FewPassed n ⌝ }
-    ensures { λ r. ⌜ r ≡ checking (firstOf (ltb 0 (n .rows)) (typeOut t) (leb 4 (n .types)) false (placeAt n)) ⌝ }
+    ensures { λ r. ⌜ r ≡ checking (firstOf (ltb 0 (n .rows)) (typeOut t) (leb typesRoom (n .types)) false (placeAt n)) ⌝ }
 {
     let out = type_out(t);
     let place = place_of(n);
@@ -96,7 +98,7 @@ pub fn check_driver(n: Passed, o: Ohm) -> Checking
 
 // A row whose fields are out of range, or are not.
 pub fn check_row(rows: &[u32], n: Passed, w: Wire, out: bool) -> Checking
-    requires { ⌜ FewPassed n × (6 * n .rows ≤ length (now rows)) ⌝ }
+    requires { ⌜ FewPassed n × (rowWords * n .rows ≤ length (now rows)) ⌝ }
     ensures { λ r. ⌜ r ≡ checking (firstOf (eqb (n .rows) 0) out (manyRows n (w .site)) (noParentIn (now (rows .entry)) (n .rows) (w .parent)) (placeAt n)) ⌝ }
 {
     let many = many_rows(n, w.site);
@@ -108,7 +110,7 @@ pub fn check_row(rows: &[u32], n: Passed, w: Wire, out: bool) -> Checking
 
 // The first of 1, 2, 3, 4 that a line is refused for, after those that have passed and whose rows stand in `rows`.
 pub fn check_line(rows: &[u32], n: Passed, line: Line) -> Checking
-    requires { ⌜ FewPassed n × (6 * n .rows ≤ length (now rows)) ⌝ }
+    requires { ⌜ FewPassed n × (rowWords * n .rows ≤ length (now rows)) ⌝ }
     ensures { λ r. ⌜ r ≡ checkOf (now (rows .entry)) n line ⌝ }
 {
     match line {

@@ -1,27 +1,20 @@
 // The ranges of a line's numbers: refusal 2.
-use super::Repeater;
 use super::Wire;
+use repeaters::Buffer;
+use rooms::ranges::EARLIEST_DUE;
+use rooms::ranges::LATEST_DUE;
+use rooms::ranges::MOST_FEMTOFARADS;
+use rooms::ranges::MOST_OHMS;
+use rooms::ranges::MOST_OWN;
+use rooms::ranges::MOST_PARENT;
+use rooms::ranges::MOST_SITE;
 use rules::Pin;
 ghost use mathlib.Core.Path.{_≡_};
 ghost use mathlib.Core.Bool.{_||_};
 ghost use Rattle.rules.specs.Refusals.{wireOut};
 ghost use Rattle.checks.specs.Checks.{typeOut, pinOut};
 
-pub const MOST_OHMS: u32 = 100_000;
-
-const MOST_FEMTOFARADS: u32 = 100_000;
-
-const MOST_OWN: i64 = 1_000_000_000;
-
-const EARLIEST_DUE: i64 = -1_000_000_000_000;
-
-const LATEST_DUE: i64 = 1_000_000_000_000;
-
-const MOST_PARENT: u32 = 255;
-
-const MOST_SITE: u32 = 1;
-
-pub fn type_out(t: Repeater) -> bool
+pub fn type_out(t: Buffer) -> bool
     ensures { λ r. ⌜ r ≡ typeOut t ⌝ }
 {
     let input = t.input.0;

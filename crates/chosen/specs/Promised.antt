@@ -3,7 +3,7 @@
 use mathlib.Core.Path.{_≡_, refl, sym, ap, subst, _∙_}
 use mathlib.Core.Bool.{false}
 use mathlib.Core.List.{List, [], _∷_, _++_, map, append-nil}
-use mathlib.Core.Option.{some}
+use mathlib.Core.Option.{some, orElse}
 use Prim.Native.Nat.{ℕ, zero, suc, _+_, _*_, _≤_, _<_}
 use native.Mathlib.Omega.{arith}
 use native.Mathlib.Nat.{mul-le-mul}
@@ -21,11 +21,13 @@ use Rattle.rules.specs.Lists.{written}
 use Rattle.rules.specs.Quantities.{placementRoom, listRoom, workRoom}
 use Rattle.rules.specs.Entries.{Entry, Repeater, rowsOf}
 use Rattle.rules.specs.Placements.{Placement}
-use Rattle.rules.specs.Tables.{tableEntries}
+use Rattle.rules.specs.Tables.{tableEntries, tablesOf, countsOf}
 use Rattle.rules.specs.Net.{Tree, atRow}
 use Rattle.rules.specs.Pairs.{Pair}
 use Rattle.rules.specs.Answers.{Timing, planFigures, listFigures}
-use Rattle.rules.specs.Promises.{Columns, columns, Lent, shortLent, listRefusal, PlanOf, PlanPromise, ListOf, ListPromise}
+use Rattle.rules.specs.Promises.{listRefusal, PlanOf, PlanPromise, ListOf, ListPromise, tabled}
+use Rattle.rules.specs.Areas.{Columns, columns, Lent, shortLent, columnsOf, listAreas, planAreas}
+use Rattle.laws.specs.Tests.{both-false}
 use Rattle.laws.specs.Candidates.{Front}
 use Rattle.laws.specs.Method.{Reaches, planned, Proper}
 use Rattle.laws.specs.Rows.{row-in}
@@ -34,17 +36,17 @@ use Rattle.laws.specs.Within.{within-tree}
 use Rattle.laws.specs.Listing.{pairOf, front-pairs, listed-length}
 use Rattle.laws.specs.Walk.{noRow, seenAt, atRow-seen}
 use Rattle.laws.specs.Tabled.{rowAt, rowsFrom, rows-length, repeatersFrom}
-use Rattle.laws.specs.Checked.{tablesOf, countsOf, Passed, passed-own}
+use Rattle.laws.specs.Picked.{pickIn, pickOf, PickedOf}
+use Rattle.laws.specs.Checked.{Passed, passed-own}
 use Rattle.rows.specs.Links.{row-is}
-use Rattle.rows.specs.Given.{neither, held, net-accepted, standing, driver-is}
+use Rattle.rows.specs.Given.{held, net-accepted, standing, driver-is}
 use Rattle.columns.specs.Parts.{part, part-cons, part-length}
 use Rattle.columns.specs.Run.{Candidate, blank, run, stack, placeAt}
 use Rattle.columns.specs.Made.{Room, Stand}
-use Rattle.walks.specs.Shown.{shows-some, shows-fit}
+use Rattle.walks.specs.Shown.{Carried, shows-some, shows-fit}
 use Rattle.walks.specs.Made.{Made}
 use Rattle.rooms.specs.Rooms.{shortBy, shortListBy}
 use Rattle.picked.specs.Picked.{Ready, Choice}
-use Rattle.chosen.specs.Lent.{columnsOf}
 
 abbrev pub entriesOf : (types rows : List ℕ) (due : List ℤ) (count n : ℕ) → List Entry
 entriesOf types rows due count n = tableEntries (tablesOf types rows due) (countsOf count n)
@@ -122,16 +124,19 @@ module _ {types rows : List ℕ} {due : List ℤ} {count n : ℕ} (P : Passed (t
   tree-row = rw (held P .rows-are) (tree .1)
 
   module _ (w w₁ : List Candidate) (long : workRoom ≤ length w₁) (len : ℕ) (M : Made T (seenAt R row) w w₁ 0 len) where
-    front : Front (Reaches T (tree .0)) (part 0 len w₁)
-    front =
+    carried : Carried T (tree .0) (part 0 len w₁)
+    carried =
         let z : 0 + len ≡ len = omega arith in
         let e : seenAt R row ≡ some (tree .0) = sym (atRow-seen R row inside-R) ∙ tree .1 in
         rw (e, z) at (M .shows)
 
+    front : Front (Reaches T (tree .0)) (part 0 len w₁)
+    front = carried .front
+
     pub made-stand : Stand w₁ 0 len
     made-stand =
         let z : 0 + len ≡ len = omega arith in
-        record { some = subst-length (shows-some T (tree .0) (part 0 len w₁) front); place = M .fits; fit = rw z (shows-fit T (net-accepted P) (some (tree .0)) (part 0 len w₁) (within-tree (net-accepted P) row inside-R (tree .0) (tree .1)) front) }
+        record { some = subst-length (shows-some T (tree .0) (part 0 len w₁) front); place = M .fits; fit = rw z (shows-fit T (net-accepted P) (some (tree .0)) (part 0 len w₁) (within-tree (net-accepted P) row inside-R (tree .0) (tree .1)) carried) }
       where
         subst-length : 1 ≤ length (part 0 len w₁) → 1 ≤ len
         subst-length h = omega (arith, part-length 0 len w₁ (omega (arith, M .fits)))
@@ -183,6 +188,18 @@ module _ {types rows : List ℕ} {due : List ℤ} {count n : ℕ} (P : Passed (t
       planned = rw (held P .types-are, held P .rows-are, ← (driver-is P), C .words-are, C .slack-is, C .load-is, C .chosen-is) (planned T (rowAt rows due 0 .resistance .0) (tree .0) (rw head-is at front));
     }
 
+    -- and it is the placement that the method carries
+    pub pick-of : row ≡ 0 → (before after : List ℕ) (slack : ℤ) (onDriver : ℕ) → Choice rows due w₁ len before after slack onDriver → PickedOf (entriesOf types rows due count n) before after
+    unfolding pickOf
+    pick-of z before after slack onDriver C = record {
+      tree = tree .0;
+      tree-is = subst (λ (r : ℕ). atRow (rowsOf (entriesOf types rows due count n)) r ≡ some (tree .0)) z tree-row;
+      words = C .words;
+      four = C .words-four;
+      after-is = C .after-is;
+      marks-are = rw (held P .types-are, held P .rows-are, ← (driver-is P)) (C .words-are ∙ ap (λ (c : Candidate). c .place) (C .chosen-is) ∙ ap (pickIn (λ m. rowAt rows due 0 .resistance .0 * m)) (sym head-is ∙ carried .exact));
+    }
+
 -- what an accepted net's tables have for the choice
 pub ready : {types rows : List ℕ} {due : List ℤ} {count n : ℕ} (P : Passed (tablesOf types rows due) (countsOf count n)) (ls : List ℕ) (ts : List ℤ) (ws : List ℕ) (len : ℕ) (placement : List ℕ) → Room ls ts ws → Stand (run ls ts ws) 0 len → placementRoom ≤ length placement → Ready rows due ls ts ws len placement
 ready {rows = rows} {due} {n = n} P ls ts ws len placement r s f = record {
@@ -207,24 +224,24 @@ cleared-is ls ts ws Z a b c = rw (a, b, c, Z .loads, Z .times, Z .words)
 
 module _ {types rows : List ℕ} {due : List ℤ} {count n : ℕ} (P : Passed (tablesOf types rows due) (countsOf count n)) {ls : List ℕ} {ts : List ℤ} {ws : List ℕ} (room : Room ls ts ws) where
   pub plan-promise : (before after : List ℕ) (slack : Femtosecond) (load : Femtofarad) (work′ : Columns) → placementRoom ≤ length before → PlanOf (entriesOf types rows due count n) before after (timingOf (slack .0) (load .0)) → work′ ≡ columns .cleared (columnsOf ls ts ws)
-      → PlanPromise columns (tablesOf types rows due) (countsOf count n) before (columnsOf ls ts ws) (IsPlanned slack load) after work′
+      → PlanPromise columns (tabled (tablesOf types rows due) (countsOf count n)) (planAreas before (columnsOf ls ts ws)) (IsPlanned slack load) (planAreas after work′)
   unfolding PlanPromise planFigures
   plan-promise before after slack load work′ four plan clear = rw (le-ltb _ _ four, room-columns room, passed-own (tablesOf types rows due) (countsOf count n) P) (timingOf (slack .0) (load .0), refl, plan, clear)
 
   pub list-promise : (row : ℕ) (before after : Lent) (len : ℕ) (work′ : Columns) → row < n → listRoom ≤ length (before .loads) → listRoom ≤ length (before .times) → ListOf (entriesOf types rows due count n) row before after len → work′ ≡ columns .cleared (columnsOf ls ts ws)
-      → ListPromise columns (tablesOf types rows due) (countsOf count n) row before (columnsOf ls ts ws) (Listed len) after work′
-  unfolding ListPromise listFigures listRefusal shortLent
+      → ListPromise columns (tabled (tablesOf types rows due) (countsOf count n)) row (listAreas before (columnsOf ls ts ws)) (Listed len) (listAreas after work′)
+  unfolding ListPromise listFigures listRefusal shortLent orElse
   list-promise row before after len work′ inside a b list clear = rw (le-ltb _ _ a, le-ltb _ _ b, room-columns room, passed-own (tablesOf types rows due) (countsOf count n) P, lt-leb _ _ inside) (len, refl, list, clear)
 
 -- ---- the rooms, from the tests in the code
 pub work-room : {ls : List ℕ} {ts : List ℤ} {ws : List ℕ} → shortBy (length ls) (length ts) (length ws) ≡ false → Room ls ts ws
 work-room {ls} {ts} {ws} e =
-    let (a, b) = neither (ltb (length ls) workRoom) _ e in
-    let (b, c) = neither (ltb (length ts) workRoom) _ b in
+    let (a, b) = both-false (ltb (length ls) workRoom) _ e in
+    let (b, c) = both-false (ltb (length ts) workRoom) _ b in
     record { loads = ltb-false _ _ a; times = ltb-false _ _ b; words = ltb-false _ _ c }
 
 pub list-rooms : (ls : List ℕ) (ts : List ℤ) → shortListBy (length ls) (length ts) ≡ false → (listRoom ≤ length ls) × (listRoom ≤ length ts)
-list-rooms ls ts e = let (a, b) = neither (ltb (length ls) listRoom) _ e in (ltb-false _ _ a, ltb-false _ _ b)
+list-rooms ls ts e = let (a, b) = both-false (ltb (length ls) listRoom) _ e in (ltb-false _ _ a, ltb-false _ _ b)
 
 -- the parts of a work area that are lent on have exactly its room
 pub parts-exact : {ls : List ℕ} {ts : List ℤ} {ws : List ℕ} → Room ls ts ws → Exact (take workRoom ls) (take workRoom ts) (take (placementRoom * workRoom) ws)

@@ -1,18 +1,21 @@
 // What is chosen of the list at a row, in a work area of exactly its room: a placement at the driver, or the list itself.
 use picked::Timing;
 use rooms::WORK_ROOM;
+use rooms::links::LINKS_ROOM;
 ghost use Prim.Native.Nat.{_≤_, _<_};
 ghost use lib.ListN.{length};
 ghost use Rattle.rules.specs.Quantities.{placementRoom, listRoom};
 ghost use Rattle.rules.specs.Promises.{PlanOf, ListOf};
+ghost use Rattle.rules.specs.Tables.{tablesOf, countsOf};
+ghost use Rattle.rules.specs.Areas.{lentOf};
 ghost use Rattle.laws.specs.Walk.{seenAt};
 ghost use Rattle.laws.specs.Tabled.{rowsFrom, repeatersFrom};
-ghost use Rattle.laws.specs.Checked.{tablesOf, countsOf, Passed};
+ghost use Rattle.laws.specs.Checked.{Passed};
 ghost use Rattle.columns.specs.Run.{run};
+ghost use Rattle.laws.specs.Picked.{PickedOf};
 ghost use Rattle.columns.specs.Made.{Room};
 ghost use Rattle.walks.specs.Made.{Made};
 ghost use Rattle.chosen.specs.Promised.{entriesOf, timingOf, Exact, Zeroed};
-ghost use Rattle.chosen.specs.Lent.{lentOf};
 
 // The list at a row, made at the start of the work area.
 fn make(
@@ -31,7 +34,7 @@ fn make(
     requires { ⌜ Room (now loads) (now times) (now words) ⌝ }
     ensures { λ len. ⌜ Made (repeatersFrom (now (types .entry)) 0 count) (seenAt (rowsFrom (now (rows .entry)) (now (due .entry)) 0 n) row) (run (now (loads .entry)) (now (times .entry)) (now (words .entry))) (run (now (loads .exit)) (now (times .exit)) (now (words .exit))) 0 len ⌝ }
 {
-    let mut links = [0u16; 768];
+    let mut links = [0u16; LINKS_ROOM];
     rows::backward::link_back(rows, due, n, &mut links);
     walks::seen(
         rows,
@@ -48,7 +51,8 @@ fn make(
     )
 }
 
-// In a work area of exactly its room: the list at the driver, the placement chosen of it, and the area left all zero.
+// In a work area of exactly its room: the list at the driver, the placement chosen of it, and the area left all zero. Of several
+// placements with the same slack and load it is always the same one, a function of the net: that is what `picked` says.
 pub fn plan_in(
     types: &[u32],
     rows: &[u32],
@@ -64,6 +68,7 @@ pub fn plan_in(
     requires { ⌜ (placementRoom ≤ length (now placement)) × Exact (now loads) (now times) (now words) ⌝ }
     ensures planned { λ r. ⌜ PlanOf (entriesOf (now (types .entry)) (now (rows .entry)) (now (due .entry)) count n) (now (placement .entry)) (now (placement .exit)) (timingOf (r .slack .0) (r .load .0)) ⌝ }
     ensures cleared { λ r. ⌜ Zeroed (now (loads .exit)) (now (times .exit)) (now (words .exit)) ⌝ }
+    ensures picked { λ r. ⌜ PickedOf (entriesOf (now (types .entry)) (now (rows .entry)) (now (due .entry)) count n) (now (placement .entry)) (now (placement .exit)) ⌝ }
 {
     let len = make(types, rows, due, count, n, loads, times, words, 0);
     let t = picked::choose(rows, due, loads, times, words, len, placement);

@@ -1,9 +1,11 @@
 // The work area left all zero.
+use rooms::PLACEMENT_ROOM;
 ghost use mathlib.Core.Path.{_≡_};
 ghost use mathlib.Core.List.{_++_};
 ghost use Prim.Native.Nat.{_*_, _≤_};
 ghost use lib.IntN.{pos};
 ghost use lib.ListN.{length, drop, replicate};
+ghost use Rattle.rules.specs.Quantities.{placementRoom};
 
 pub fn clear_loads(loads: &mut [u32], n: usize)
     requires { ⌜ n ≤ length (now loads) ⌝ }
@@ -40,12 +42,12 @@ pub fn clear_words(words: &mut [u64], n: usize)
 
 // Zero over n places of the three columns.
 pub fn clear(loads: &mut [u32], times: &mut [i64], words: &mut [u64], n: usize)
-    requires { ⌜ (n ≤ length (now loads)) × ((n ≤ length (now times)) × (4 * n ≤ length (now words))) ⌝ }
+    requires { ⌜ (n ≤ length (now loads)) × ((n ≤ length (now times)) × (placementRoom * n ≤ length (now words))) ⌝ }
     ensures loads { λ _. ⌜ now (loads .exit) ≡ replicate n 0 ++ drop n (now (loads .entry)) ⌝ }
     ensures times { λ _. ⌜ now (times .exit) ≡ replicate n (pos 0) ++ drop n (now (times .entry)) ⌝ }
-    ensures words { λ _. ⌜ now (words .exit) ≡ replicate (4 * n) 0 ++ drop (4 * n) (now (words .entry)) ⌝ }
+    ensures words { λ _. ⌜ now (words .exit) ≡ replicate (placementRoom * n) 0 ++ drop (placementRoom * n) (now (words .entry)) ⌝ }
 {
     clear_loads(loads, n);
     clear_times(times, n);
-    clear_words(words, 4 * n);
+    clear_words(words, PLACEMENT_ROOM * n);
 }

@@ -9,7 +9,9 @@ use native.Mathlib.Omega.{arith}
 use lib.IntN.{ℤ, pos}
 use lib.Signed.{_≤ℤ_, _<ℤ_, ltZ, mag}
 use lib.ListN.{length, getD}
-use Rattle.rules.specs.Quantities.{_⊖_, mostLoad, workRoom}
+use Rattle.rules.specs.Quantities.{_⊖_, workRoom}
+use Rattle.laws.specs.Ranges.{mostLoad}
+use Rattle.units.specs.Times.{farTime}
 use Rattle.laws.specs.Integers.{times, ≤-or-<}
 use Rattle.laws.specs.Steps.{value, pick, best}
 use Rattle.laws.specs.Thinning.{lt-true, lt-false}
@@ -32,7 +34,7 @@ pub record Columns (ls : List ℕ) (ts : List ℤ) (at n : ℕ) : Type 0 where
   pub loads : workRoom ≤ length ls
   pub times : workRoom ≤ length ts
   pub load : (j : ℕ) → at ≤ j → j < at + n → getD ls j 0 ≤ mostLoad
-  pub time : (j : ℕ) → at ≤ j → j < at + n → mag (getD ts j (pos 0)) ≤ 3_000_000_000_000_000
+  pub time : (j : ℕ) → at ≤ j → j < at + n → mag (getD ts j (pos 0)) ≤ farTime
 
 pub stand-columns : {ls : List ℕ} {ts : List ℤ} {ws : List ℕ} {at n : ℕ} → Room ls ts ws → Stand (run ls ts ws) at n → Columns ls ts at n
 stand-columns {ls} {ts} {ws} {at} {n} r s = record {

@@ -6,9 +6,11 @@ use lib.IntN.{ℤ}
 use lib.Signed.{mag, _≤ℤ_}
 use native.Mathlib.Omega.{arith}
 use lib.ListN.{length}
-use Rattle.rules.specs.Quantities.{mostLoad, leastSlack, mostSlack, workRoom}
+use Rattle.rules.specs.Quantities.{workRoom, placementRoom}
 use Rattle.rules.specs.Lists.{All}
 use Rattle.rules.specs.Net.{Wire}
+use Rattle.laws.specs.Ranges.{mostLoad, leastSlack, mostSlack}
+use Rattle.units.specs.Times.{farTime}
 use Rattle.laws.specs.Integers.{mag-between}
 use Rattle.columns.specs.Parts.{part}
 use Rattle.columns.specs.Run.{Candidate, run, run-long}
@@ -19,8 +21,8 @@ pub record Fit (c : Candidate) : Type 0 where
   pub low : leastSlack ≤ℤ c .time
   pub top : c .time ≤ℤ mostSlack
 
-pub fit-near : (c : Candidate) → Fit c → mag (c .time) ≤ 3_000_000_000_000_000
-fit-near c f = let h = mag-between (c .time) 2_999_999_999_999_999 1_000_000_000_000 {h = 3_000_000_000_000_000} (f .low) (f .top) (omega arith) (omega arith) in omega arith
+pub fit-near : (c : Candidate) → Fit c → mag (c .time) ≤ farTime
+fit-near c f = let h = mag-between (c .time) 2_999_999_999_999_999 1_000_000_000_000 {h = farTime} (f .low) (f .top) (omega arith) (omega arith) in omega arith
 
 -- a wire by its numbers
 abbrev pub wireOf : ℕ → ℕ → Wire
@@ -30,7 +32,7 @@ wireOf resistance capacitance = record { resistance = resistance; capacitance = 
 pub record Room (ls : List ℕ) (ts : List ℤ) (ws : List ℕ) : Type 0 where
   pub loads : workRoom ≤ length ls
   pub times : workRoom ≤ length ts
-  pub words : 4 * workRoom ≤ length ws
+  pub words : placementRoom * workRoom ≤ length ws
 
 -- the columns are as long as they were
 pub record Sized (ls : List ℕ) (ts : List ℤ) (ws ls′ : List ℕ) (ts′ : List ℤ) (ws′ : List ℕ) : Type 0 where

@@ -5,11 +5,13 @@ use Prim.Native.Nat.{ℕ, _+_, _*_, _≤_, _<_}
 use lib.IntN.{ℤ, pos}
 use lib.Signed.{mag}
 use lib.ListN.{length, getD, set}
-use Rattle.rules.specs.Quantities.{_⊖_, mostLoad}
+use Rattle.rules.specs.Quantities.{_⊖_}
 use Rattle.rules.specs.Placements.{Placement}
 use Rattle.rules.specs.Slack.{wireDelay}
+use Rattle.laws.specs.Ranges.{mostLoad}
+use Rattle.units.specs.Times.{farTime}
 use Rattle.laws.specs.Integers.{minℤ}
-use Rattle.laws.specs.Joining.{join}
+use Rattle.laws.specs.Joining.{joinMarks}
 use Rattle.laws.specs.Steps.{joined}
 use Rattle.laws.specs.Moves.{behind}
 use Rattle.columns.specs.Run.{blank, run, run-at, run-put, placeAt, Puts}
@@ -20,7 +22,7 @@ module _ (ls : List ℕ) (ts : List ℤ) (ws : List ℕ) (i : ℕ) (h : i < leng
   pub column-load : Fit (getD (run ls ts ws) i blank) → getD ls i 0 ≤ mostLoad
   column-load f = (rw (run-at ls ts ws i h k) at f) .load
 
-  pub column-time : Fit (getD (run ls ts ws) i blank) → mag (getD ts i (pos 0)) ≤ 3_000_000_000_000_000
+  pub column-time : Fit (getD (run ls ts ws) i blank) → mag (getD ts i (pos 0)) ≤ farTime
   column-time f = fit-near _ (rw (run-at ls ts ws i h k) at f)
 
   pub wired-load : (r c : ℕ) → Fit (behind (wireOf r c) (getD (run ls ts ws) i blank)) → c + getD ls i 0 ≤ mostLoad
@@ -36,12 +38,12 @@ module _ (ls : List ℕ) (ts : List ℤ) (ws : List ℕ) (i : ℕ) (h : i < leng
   wired-store ws′ to r c shown t e f p = rw (run-at ls ts ws i h k, f, e) (run-put ls ts ws ws′ to _ _ _ p)
 
   module _ (j : ℕ) (hj : j < length ls) (kj : j < length ts) where
-    pub joined-load : Fit (joined join (getD (run ls ts ws) i blank) (getD (run ls ts ws) j blank)) → getD ls i 0 + getD ls j 0 ≤ mostLoad
+    pub joined-load : Fit (joined joinMarks (getD (run ls ts ws) i blank) (getD (run ls ts ws) j blank)) → getD ls i 0 + getD ls j 0 ≤ mostLoad
     unfolding joined
     joined-load f = (rw (run-at ls ts ws i h k, run-at ls ts ws j hj kj) at f) .load
 
-    pub joined-store : (ws′ : List ℕ) (o shown : ℕ) (t : ℤ) → shown ≡ getD ls i 0 + getD ls j 0 → t ≡ minℤ (getD ts i (pos 0)) (getD ts j (pos 0)) → Puts ws ws′ o (join (placeAt ws i) (placeAt ws j))
-        → run (set ls o shown) (set ts o t) ws′ ≡ set (run ls ts ws) o (joined join (getD (run ls ts ws) i blank) (getD (run ls ts ws) j blank))
+    pub joined-store : (ws′ : List ℕ) (o shown : ℕ) (t : ℤ) → shown ≡ getD ls i 0 + getD ls j 0 → t ≡ minℤ (getD ts i (pos 0)) (getD ts j (pos 0)) → Puts ws ws′ o (joinMarks (placeAt ws i) (placeAt ws j))
+        → run (set ls o shown) (set ts o t) ws′ ≡ set (run ls ts ws) o (joined joinMarks (getD (run ls ts ws) i blank) (getD (run ls ts ws) j blank))
     unfolding joined
     joined-store ws′ o shown t e f p = rw (run-at ls ts ws i h k, run-at ls ts ws j hj kj, f, e) (run-put ls ts ws ws′ o _ _ _ p)
 

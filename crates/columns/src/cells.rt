@@ -9,9 +9,12 @@ ghost use Prim.Native.Nat.{_+_, _*_, _≤_, _<_};
 ghost use lib.IntN.{pos};
 ghost use lib.Signed.{ltZ, mag};
 ghost use lib.ListN.{length, getD, set};
-ghost use Rattle.rules.specs.Quantities.{_⊖_, mostOhms, mostOwn, mostLoad, sitesRoom, workRoom};
-ghost use Rattle.laws.specs.Joining.{join};
-ghost use Rattle.laws.specs.Joining.{set as mark};
+ghost use Rattle.rules.specs.Quantities.{_⊖_, mostOhms, sitesRoom, workRoom};
+ghost use Rattle.laws.specs.Ranges.{mostLoad};
+ghost use Rattle.marks.specs.Marks.{marksEnd};
+ghost use Rattle.units.specs.Times.{Own, farTime};
+ghost use Rattle.laws.specs.Joining.{joinMarks};
+ghost use Rattle.laws.specs.Joining.{withMark};
 ghost use Rattle.laws.specs.Steps.{joined};
 ghost use Rattle.laws.specs.Moves.{behind};
 ghost use Rattle.columns.specs.Run.{blank, candidate, run};
@@ -64,8 +67,8 @@ pub fn joined_at(
 )
     requires { ⌜ Room (now loads) (now times) (now words) ⌝ }
     requires { ⌜ (i < workRoom) × ((j < workRoom) × (o < workRoom)) ⌝ }
-    requires { ⌜ Fit (joined join (getD (run (now loads) (now times) (now words)) i blank) (getD (run (now loads) (now times) (now words)) j blank)) ⌝ }
-    ensures { λ _. ⌜ run (now (loads .exit)) (now (times .exit)) (now (words .exit)) ≡ set (run (now (loads .entry)) (now (times .entry)) (now (words .entry))) o (joined join (getD (run (now (loads .entry)) (now (times .entry)) (now (words .entry))) i blank) (getD (run (now (loads .entry)) (now (times .entry)) (now (words .entry))) j blank)) ⌝ }
+    requires { ⌜ Fit (joined joinMarks (getD (run (now loads) (now times) (now words)) i blank) (getD (run (now loads) (now times) (now words)) j blank)) ⌝ }
+    ensures { λ _. ⌜ run (now (loads .exit)) (now (times .exit)) (now (words .exit)) ≡ set (run (now (loads .entry)) (now (times .entry)) (now (words .entry))) o (joined joinMarks (getD (run (now (loads .entry)) (now (times .entry)) (now (words .entry))) i blank) (getD (run (now (loads .entry)) (now (times .entry)) (now (words .entry))) j blank)) ⌝ }
 {
     let first = times[i];
     let second = times[j];
@@ -114,11 +117,11 @@ pub fn later_at(times: &[i64], i: usize, j: usize) -> usize
 }
 
 // What a repeater's or the driver's input sees of candidate i: its time before the delay.
-pub fn value_at(loads: &[u32], times: &[i64], i: usize, own: u32, r: Ohm) -> Femtosecond
+pub fn value_at(loads: &[u32], times: &[i64], i: usize, own: Femtosecond, r: Ohm) -> Femtosecond
     requires { ⌜ (i < length (now loads)) × (i < length (now times)) ⌝ }
-    requires { ⌜ (getD (now loads) i 0 ≤ mostLoad) × (mag (getD (now times) i (pos 0)) ≤ 3_000_000_000_000_000) ⌝ }
-    requires { ⌜ (own ≤ mostOwn) × (r .0 ≤ mostOhms) ⌝ }
-    ensures { λ v. ⌜ v .0 ≡ getD (now (times .entry)) i (pos 0) ⊖ (own + r .0 * getD (now (loads .entry)) i 0) ⌝ }
+    requires { ⌜ (getD (now loads) i 0 ≤ mostLoad) × (mag (getD (now times) i (pos 0)) ≤ farTime) ⌝ }
+    requires { ⌜ Own (own .0) × (r .0 ≤ mostOhms) ⌝ }
+    ensures { λ v. ⌜ v .0 ≡ getD (now (times .entry)) i (pos 0) ⊖ (mag (own .0) + r .0 * getD (now (loads .entry)) i 0) ⌝ }
 {
     pairs::time_before_repeater(Femtosecond(times[i]), own, r, Femtofarad(loads[i]))
 }
@@ -138,8 +141,8 @@ pub fn typed_at(
 )
     requires { ⌜ Room (now loads) (now times) (now words) ⌝ }
     requires { ⌜ (from < workRoom) × (to < workRoom) ⌝ }
-    requires { ⌜ (k < sitesRoom) × (m < 16) ⌝ }
-    ensures { λ _. ⌜ run (now (loads .exit)) (now (times .exit)) (now (words .exit)) ≡ set (run (now (loads .entry)) (now (times .entry)) (now (words .entry))) to (candidate (input .0) (time .0) (mark k m (getD (run (now (loads .entry)) (now (times .entry)) (now (words .entry))) from blank .place))) ⌝ }
+    requires { ⌜ (k < sitesRoom) × (m < marksEnd) ⌝ }
+    ensures { λ _. ⌜ run (now (loads .exit)) (now (times .exit)) (now (words .exit)) ≡ set (run (now (loads .entry)) (now (times .entry)) (now (words .entry))) to (candidate (input .0) (time .0) (withMark k m (getD (run (now (loads .entry)) (now (times .entry)) (now (words .entry))) from blank .place))) ⌝ }
 {
     let shown = input.0;
     let t = time.0;

@@ -1,17 +1,27 @@
 // The best of a list behind a repeater or the driver: the first of those whose time is the greatest.
 use crate::cells;
 use pairs::Choice;
+use rules::Femtosecond;
 use rules::Ohm;
 ghost use Prim.Native.Nat.{_+_, _*_, _≤_, _<_};
-ghost use Rattle.rules.specs.Quantities.{mostOhms, mostOwn};
+ghost use lib.Signed.{mag};
+ghost use Rattle.rules.specs.Quantities.{mostOhms};
+ghost use Rattle.units.specs.Times.{Own};
 ghost use Rattle.laws.specs.Steps.{best, value};
 ghost use Rattle.columns.specs.Choosing.{Columns, Chosen, delayOf};
 
 // The first greatest of the n candidates at `at`, behind a repeater.
-pub fn best_from(loads: &[u32], times: &[i64], at: usize, n: usize, own: u32, r: Ohm) -> Choice
+pub fn best_from(
+    loads: &[u32],
+    times: &[i64],
+    at: usize,
+    n: usize,
+    own: Femtosecond,
+    r: Ohm,
+) -> Choice
     requires { ⌜ Columns (now loads) (now times) at n ⌝ }
-    requires { ⌜ (own ≤ mostOwn) × (r .0 ≤ mostOhms) ⌝ }
-    ensures { λ b. ⌜ Chosen (delayOf own (r .0)) (now (loads .entry)) (now (times .entry)) at n (b .at) (b .value .0) ⌝ }
+    requires { ⌜ Own (own .0) × (r .0 ≤ mostOhms) ⌝ }
+    ensures { λ b. ⌜ Chosen (delayOf (mag (own .0)) (r .0)) (now (loads .entry)) (now (times .entry)) at n (b .at) (b .value .0) ⌝ }
 {
     let end = at + n;
     let mut best = Choice {
@@ -33,5 +43,5 @@ pub fn best_at(loads: &[u32], times: &[i64], at: usize, n: usize, r: Ohm) -> Cho
     requires { ⌜ r .0 ≤ mostOhms ⌝ }
     ensures { λ b. ⌜ Chosen (λ m. r .0 * m) (now (loads .entry)) (now (times .entry)) at n (b .at) (b .value .0) ⌝ }
 {
-    best_from(loads, times, at, n, 0, r)
+    best_from(loads, times, at, n, Femtosecond(0), r)
 }

@@ -6,7 +6,7 @@ use native.Mathlib.Omega.{arith}
 use lib.IntN.{ℤ, pos}
 use lib.ListN.{length, getD, set, take, drop, length-map}
 use Rattle.rules.specs.declared.Cand.{Cand}
-use Rattle.rules.specs.Promises.{zeros}
+use Rattle.rules.specs.Areas.{zeros}
 use Rattle.entries.specs.Words.{copy-more}
 
 -- a start of one list copied over another's

@@ -3,10 +3,14 @@ use checks::Passed;
 use checks::lines::place_of;
 use rooms::ROW_WORDS;
 use rooms::ROWS_ROOM;
+use rooms::words::ROW_PARENT;
+use rooms::words::SINK;
 use rules::Refusal;
 ghost use mathlib.Core.Path.{_≡_};
 ghost use Prim.Native.Nat.{_+_, _*_, _≤_, _<_};
 ghost use lib.ListN.{length, replicate};
+ghost use Rattle.rules.specs.Tables.{rowWords};
+ghost use Rattle.rules.specs.Quantities.{rowsRoom};
 ghost use Rattle.ending.specs.Below.{foundWith, markedWith, FirstChildless, FoundIn, Finished};
 ghost use Rattle.checks.specs.Checks.{FewPassed};
 
@@ -22,11 +26,11 @@ pub enum Found {
     Nothing,
 }
 
-// The first childless row from row i on, from what was found behind it.
+// The first childless row from row i on, from what was found after it.
 fn found_with(kind: u32, below: u8, i: usize, found: Found) -> Found
     ensures { λ r. ⌜ r ≡ foundWith kind below i found ⌝ }
 {
-    if kind == 2 {
+    if kind == SINK {
         return found;
     }
     if below == 1 {
@@ -37,7 +41,7 @@ fn found_with(kind: u32, below: u8, i: usize, found: Found) -> Found
 
 // The row above has a row below it.
 fn mark(below: &mut [u8], parent: u32)
-    requires { ⌜ length (now below) ≡ 256 ⌝ }
+    requires { ⌜ length (now below) ≡ rowsRoom ⌝ }
     ensures { λ _. ⌜ now (below .exit) ≡ markedWith parent (now (below .entry)) ⌝ }
 {
     let above = parent as usize;
@@ -49,7 +53,7 @@ fn mark(below: &mut [u8], parent: u32)
 // The first of `count` rows that is no sink and has no row below it, from the last row back, since what lies below comes after.
 // `below` has no mark yet.
 fn childless_with(rows: &[u32], count: usize, below: &mut [u8]) -> Found
-    requires { ⌜ ((count ≤ 256) × (6 * count ≤ length (now rows))) × (now below ≡ replicate 256 0) ⌝ }
+    requires { ⌜ ((count ≤ rowsRoom) × (rowWords * count ≤ length (now rows))) × (now below ≡ replicate rowsRoom 0) ⌝ }
     ensures first { λ r. ⌜ FirstChildless (now (rows .entry)) count r ⌝ }
     ensures among { λ r. ⌜ FoundIn count r ⌝ }
 {
@@ -59,23 +63,23 @@ fn childless_with(rows: &[u32], count: usize, below: &mut [u8]) -> Found
         i -= 1;
         let at = ROW_WORDS * i;
         found = found_with(rows[at], below[i], i, found);
-        mark(below, rows[at + 1]);
+        mark(below, rows[at + ROW_PARENT]);
     }
     found
 }
 
 fn first_childless(rows: &[u32], count: usize) -> Found
-    requires { ⌜ (count ≤ 256) × (6 * count ≤ length (now rows)) ⌝ }
+    requires { ⌜ (count ≤ rowsRoom) × (rowWords * count ≤ length (now rows)) ⌝ }
     ensures first { λ r. ⌜ FirstChildless (now (rows .entry)) count r ⌝ }
     ensures among { λ r. ⌜ FoundIn count r ⌝ }
 {
-    let mut below = [0u8; 256];
+    let mut below = [0u8; ROWS_ROOM];
     childless_with(rows, count, &mut below[..])
 }
 
 // After the last line: 1 where there is no driver, then 5.
 pub fn finish(rows: &[u32], n: Passed) -> Taking
-    requires { ⌜ FewPassed n × (6 * n .rows ≤ length (now rows)) ⌝ }
+    requires { ⌜ FewPassed n × (rowWords * n .rows ≤ length (now rows)) ⌝ }
     ensures { λ r. ⌜ Finished (now (rows .entry)) n r ⌝ }
 {
     let count = n.rows;

@@ -5,9 +5,11 @@ use Prim.Native.Nat.{ℕ, _+_, _*_, _<_}
 use lib.Dec.{eqb}
 use lib.IntN.{ℤ, pos, negsuc}
 use lib.ListN.{length, take}
+use Rattle.rules.specs.Tables.{typeWords, rowWords, typeTable, rowTable, dueTable}
+use Rattle.rules.specs.Quantities.{typesRoom, rowsRoom}
 use Rattle.rules.specs.Entries.{Entry, typesOf, rowsOf, sitesOf, siteCount}
-use Rattle.rules.specs.Promises.{typeTable, rowTable, dueTable}
-use Rattle.checks.specs.declared.Repeater.{Repeater}
+use Rattle.rooms.specs.Cap.{wordCap}
+use Rattle.repeaters.specs.declared.Buffer.{Buffer}
 use Rattle.checks.specs.declared.Wire.{Wire}
 use Rattle.checks.specs.declared.Passed.{Passed}
 use Rattle.checks.specs.declared.Line.{Line}
@@ -22,8 +24,8 @@ pub record Holds (before : List Entry) (types rows : List ℕ) (due : List ℤ) 
   pub rows-counted : length (rowsOf before) ≡ n .rows
   pub sites-counted : sitesOf (rowsOf before) ≡ n .sites
   pub lines-counted : length before ≡ n .types + n .rows
-  pub type-words : typeTable (typesOf before) ≡ take (3 * n .types) types
-  pub row-words : rowTable (rowsOf before) ≡ take (6 * n .rows) rows
+  pub type-words : typeTable (typesOf before) ≡ take (typeWords * n .types) types
+  pub row-words : rowTable (rowsOf before) ≡ take (rowWords * n .rows) rows
   pub due-times : dueTable (rowsOf before) ≡ take (n .rows) due
 
 -- ---- one line more
@@ -45,7 +47,7 @@ abbrev pub ownWord : ℤ → ℕ
 ownWord (pos n) = n
 ownWord (negsuc n) = 0
 
-abbrev pub wordsOfType : Repeater → List ℕ
+abbrev pub wordsOfType : Buffer → List ℕ
 wordsOfType t = t .input .0 ∷ t .resistance .0 ∷ ownWord (t .own .0) ∷ []
 
 abbrev pub wordsOfRow : (kind : ℕ) → Wire → (pin : ℕ) → List ℕ
@@ -74,14 +76,14 @@ dueTimesOf (RefusedLine r) = []
 
 -- there is room for the line's entry
 abbrev pub Roomy : Passed → Line → Type 0
-Roomy n (TypeLine t) = (n .types < 4) × (ownWord (t .own .0) < 2_000_000_000)
-Roomy n (DriverLine o) = n .rows < 256
-Roomy n (PointLine w) = n .rows < 256
-Roomy n (SinkLine w p) = n .rows < 256
+Roomy n (TypeLine t) = (n .types < typesRoom) × (ownWord (t .own .0) < wordCap)
+Roomy n (DriverLine o) = n .rows < rowsRoom
+Roomy n (PointLine w) = n .rows < rowsRoom
+Roomy n (SinkLine w p) = n .rows < rowsRoom
 Roomy n (RefusedLine r) = Unit {0}
 
 -- the areas have grown by the line's entry
 pub record Grown (n : Passed) (line : Line) (types types′ rows rows′ : List ℕ) (due due′ : List ℤ) : Type 0 where
-  pub types-grown : take (3 * countedWith n line .types) types′ ≡ take (3 * n .types) types ++ typeWordsOf line
-  pub rows-grown : take (6 * countedWith n line .rows) rows′ ≡ take (6 * n .rows) rows ++ rowWordsOf line
+  pub types-grown : take (typeWords * countedWith n line .types) types′ ≡ take (typeWords * n .types) types ++ typeWordsOf line
+  pub rows-grown : take (rowWords * countedWith n line .rows) rows′ ≡ take (rowWords * n .rows) rows ++ rowWordsOf line
   pub due-grown : take (countedWith n line .rows) due′ ≡ take (n .rows) due ++ dueTimesOf line

@@ -3,24 +3,22 @@ use mathlib.Core.Path.{_≡_, refl}
 use mathlib.Core.List.{List, [], _∷_}
 use Prim.Native.Nat.{ℕ, min}
 use native.Mathlib.Omega.{arith}
-use lib.IntN.{ℤ, pos}
+use lib.IntN.{ℤ}
 use lib.ListN.{length, getD}
 use Rattle.rules.specs.declared.Pin.{Pin}
 use Rattle.rules.specs.declared.Refusal.the-variants.{Form, Room}
 use Rattle.rules.specs.Entries.{Entry, type, driver, point, sink, malformed, beyond}
+use Rattle.rooms.specs.Cap.{wordCap}
 use Rattle.text.specs.Stretches.{absurd}
 use Rattle.text.specs.Numbers.{cappedTime}
-use Rattle.checks.specs.declared.Repeater.{Repeater}
+use Rattle.repeaters.specs.Repeaters.{bufferOf}
 use Rattle.checks.specs.declared.Wire.{Wire}
 use Rattle.checks.specs.declared.Line.{Line}
 use Rattle.checks.specs.declared.Line.the-variants.{Repeater as TypeLine, Driver as DriverLine, Point as PointLine, Sink as SinkLine, Refused as RefusedLine}
 
 -- a word, cut above every range
 abbrev pub word : ℕ → ℕ
-word n = min n 2_000_000_000
-
-unfoldable pub repeaterOf : (input resistance own : ℕ) → Repeater
-repeaterOf input resistance own = record { input = record { 0 = input }; resistance = record { 0 = resistance }; own = record { 0 = pos own } }
+word n = min n wordCap
 
 unfoldable pub wireOf : (parent resistance capacitance site : ℕ) → Wire
 wireOf parent resistance capacitance site = record { parent = parent; resistance = record { 0 = resistance }; capacitance = record { 0 = capacitance }; site = site }
@@ -39,7 +37,7 @@ capped beyond = beyond
 
 -- the line that states an entry
 abbrev pub lineFor : (place : ℕ) → Entry → Line
-lineFor place (type input resistance own) = TypeLine (repeaterOf input resistance own)
+lineFor place (type input resistance own) = TypeLine (bufferOf input resistance own)
 lineFor place (driver resistance) = DriverLine (record { 0 = resistance })
 lineFor place (point parent resistance capacitance site) = PointLine (wireOf parent resistance capacitance site)
 lineFor place (sink parent resistance capacitance site pin due) = SinkLine (wireOf parent resistance capacitance site) (pinOf pin due)

@@ -11,16 +11,17 @@ use borrow.Author.Tests.{eqb-true, eqb-false}
 use Rattle.rules.specs.declared.Checking.{Checking}
 use Rattle.rules.specs.declared.Checking.the-variants.{Accepted}
 use Rattle.rules.specs.Entries.{malformed}
-use Rattle.rules.specs.Tables.{isZero, rowBy, rowEntry, typeEntry}
+use Rattle.rules.specs.Tables.{isZero, rowBy, rowEntry, typeEntry, typeWords, rowWords, rowParent, rowResistance, rowCapacitance, rowSite, rowPin}
 use Rattle.text.specs.Stretches.{either, absurd}
-use Rattle.checks.specs.declared.Repeater.{Repeater}
+use Rattle.repeaters.specs.declared.Buffer.{Buffer}
+use Rattle.repeaters.specs.Repeaters.{bufferOf, bufferAt}
 use Rattle.checks.specs.declared.Passed.{Passed}
 use Rattle.checks.specs.declared.Line.{Line}
 use Rattle.checks.specs.declared.Line.the-variants.{Repeater as TypeLine}
-use Rattle.entries.specs.Lines.{repeaterOf, wireOf, pinOf, lineFor}
+use Rattle.entries.specs.Lines.{wireOf, pinOf, lineFor}
 use Rattle.checks.specs.Checks.{checkOf, placeAt}
 use Rattle.entries.specs.Held.{Grown, withRow, countedWith, rowWordsOf, dueTimesOf, typeWordsOf}
-use Rattle.entries.specs.Entries.{typeAt, rowEntryOf, rowCheck}
+use Rattle.entries.specs.Entries.{rowEntryOf, rowCheck}
 use Rattle.entries.specs.EntryLaws.{driver-parent, driver-capacitance, driver-site, driver-pin, driver-time, point-pin, point-time, other-row}
 use Rattle.entries.specs.Words.{one-read, three-read, six-read}
 
@@ -81,47 +82,47 @@ not-malformed rows n line r place e f a =
     omega arith
 
 pub row-grown : (types rows : List ℕ) (due : List ℤ) (n : Passed) (i place : ℕ) (line : Line) (r : Checking) → n .rows ≡ i → line ≡ lineFor place (rowEntryOf rows due i)
-    → r ≡ checkOf rows n line → r ≡ Accepted → 6 * i + 6 ≤ length rows → i < length due → Grown n line types types rows rows due due
+    → r ≡ checkOf rows n line → r ≡ Accepted → rowWords * i + rowWords ≤ length rows → i < length due → Grown n line types types rows rows due due
 row-grown types rows due n i place line r at line-is r-is a long timed =
-    let k = getD rows (6 * i) 0 in
-    let p = getD rows (6 * i + 1) 0 in
-    let o = getD rows (6 * i + 2) 0 in
-    let c = getD rows (6 * i + 3) 0 in
-    let s = getD rows (6 * i + 4) 0 in
-    let pin = getD rows (6 * i + 5) 0 in
+    let k = getD rows (rowWords * i) 0 in
+    let p = getD rows (rowWords * i + rowParent) 0 in
+    let o = getD rows (rowWords * i + rowResistance) 0 in
+    let c = getD rows (rowWords * i + rowCapacitance) 0 in
+    let s = getD rows (rowWords * i + rowSite) 0 in
+    let pin = getD rows (rowWords * i + rowPin) 0 in
     let z = getD due i (pos 0) in
     let good : malformed ≡ rowBy k p o c s pin z → ⊥ = λ m. not-malformed rows n line r place (line-is ∙ ap (lineFor place) (sym m)) r-is a in
     let st : Stated n line k p o c s pin z = rw line-is (row-stated n place p o c s pin z k good) in
     record {
-      types-grown = rw (st .same-types, st .no-type) (sym (append-nil (take (3 * n .types) types)));
+      types-grown = rw (st .same-types, st .no-type) (sym (append-nil (take (typeWords * n .types) types)));
       rows-grown = rw (st .one-row, st .words, at) (six-read rows i long);
       due-grown = rw (st .one-row, st .time, at) (one-read due i (pos 0) timed);
     }
 
 -- a row is counted, and by its site word
 pub row-counted : (rows : List ℕ) (due : List ℤ) (n : Passed) (i : ℕ) (r : Checking) → r ≡ rowCheck rows due n i → r ≡ Accepted
-    → (countedWith n (lineFor (placeAt n) (rowEntryOf rows due i)) .rows ≡ n .rows + 1) × (withRow n (getD rows (6 * i + 4) 0) ≡ countedWith n (lineFor (placeAt n) (rowEntryOf rows due i)))
+    → (countedWith n (lineFor (placeAt n) (rowEntryOf rows due i)) .rows ≡ n .rows + 1) × (withRow n (getD rows (rowWords * i + rowSite) 0) ≡ countedWith n (lineFor (placeAt n) (rowEntryOf rows due i)))
 row-counted rows due n i r r-is a =
     let good : malformed ≡ rowEntryOf rows due i → ⊥ = λ m. not-malformed rows n (lineFor (placeAt n) (rowEntryOf rows due i)) r (placeAt n) (ap (lineFor (placeAt n)) (sym m)) r-is a in
-    let st = row-stated n (placeAt n) (getD rows (6 * i + 1) 0) (getD rows (6 * i + 2) 0) (getD rows (6 * i + 3) 0) (getD rows (6 * i + 4) 0) (getD rows (6 * i + 5) 0) (getD due i (pos 0)) (getD rows (6 * i) 0) good in
+    let st = row-stated n (placeAt n) (getD rows (rowWords * i + rowParent) 0) (getD rows (rowWords * i + rowResistance) 0) (getD rows (rowWords * i + rowCapacitance) 0) (getD rows (rowWords * i + rowSite) 0) (getD rows (rowWords * i + rowPin) 0) (getD due i (pos 0)) (getD rows (rowWords * i) 0) good in
     (st .one-row, st .by-site)
 
-pub type-grown : (types rows : List ℕ) (due : List ℤ) (n : Passed) (i : ℕ) (t : Repeater) → n .types ≡ i → t ≡ typeAt types i → 3 * i + 3 ≤ length types
+pub type-grown : (types rows : List ℕ) (due : List ℤ) (n : Passed) (i : ℕ) (t : Buffer) → n .types ≡ i → t ≡ bufferAt types i → typeWords * i + typeWords ≤ length types
     → Grown n (TypeLine t) types types rows rows due due
-unfolding typeAt repeaterOf
+unfolding bufferAt bufferOf
 type-grown types rows due n i t at e long =
     record {
       types-grown = rw (e, at) (three-read types i long);
-      rows-grown = sym (append-nil (take (6 * n .rows) rows));
+      rows-grown = sym (append-nil (take (rowWords * n .rows) rows));
       due-grown = sym (append-nil (take (n .rows) due));
     }
 
 -- the line of a type and of a row is that of its entry
-pub type-line-is : (types rows : List ℕ) (due : List ℤ) (i place : ℕ) (t : Repeater) → t ≡ typeAt types i
+pub type-line-is : (types rows : List ℕ) (due : List ℤ) (i place : ℕ) (t : Buffer) → t ≡ bufferAt types i
     → TypeLine t ≡ lineFor place (typeEntry (record { types = types; rows = rows; due = due }) i)
-unfolding typeEntry typeAt
+unfolding typeEntry bufferAt
 type-line-is types rows due i place t e = ap TypeLine e
 
 pub row-entry-is : (types rows : List ℕ) (due : List ℤ) (i : ℕ) → rowEntryOf rows due i ≡ rowEntry (record { types = types; rows = rows; due = due }) i
 unfolding rowEntry
-row-entry-is types rows due i = rw (add-zero (6 * i))
+row-entry-is types rows due i = rw (add-zero (rowWords * i))

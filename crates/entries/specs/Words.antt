@@ -1,4 +1,4 @@
--- The start of an area after an entry's words are stored behind it, or read there; and an area whose start was copied. Assumes nothing.
+-- The start of an area after an entry's words are stored after it, or read there; and an area whose start was copied. Assumes nothing.
 use mathlib.Core.Path.{_≡_, refl, sym, _∙_}
 use mathlib.Core.List.{List, [], _∷_, _++_, append-assoc}
 use Prim.Native.Nat.{ℕ, suc, _+_, _*_, _≤_, _<_}

@@ -1,4 +1,4 @@
-// The entries in their areas: how one is counted and stored behind those that have passed, the words of a table's entry, and areas
+// The entries in their areas: how one is counted and stored after those that have passed, the words of a table's entry, and areas
 // copied.
 
 pub mod areas;

@@ -13,15 +13,15 @@ use lib.IntN.{ℤ, pos, negsuc}
 use lib.ListN.{length, getD, List·getD-eq-default}
 use lib.Signed.{_≤ℤ_}
 use Rattle.rules.specs.Quantities.{_⊖_}
-use Rattle.rules.specs.Lists.{All, Any, Pairwise, nil, cons, here, there}
+use Rattle.rules.specs.Lists.{All, Any, nil, cons, here, there}
 use Rattle.rules.specs.Entries.{Repeater, typesOf, rowsOf, rowOf}
-use Rattle.rules.specs.Text.{textEntries, linesOf, lineOf, lettered, typeLine, driverLine, pointLine, sinkLine, parted, number, digits, signed}
+use Rattle.rules.specs.Text.{textEntries, linesOf, lineOf, lettered, typeLine, driverLine, pointLine, sinkLine, parted, number, moreDigits, signed}
 use Rattle.rules.specs.Placements.{Placement, rowOfSite}
 use Rattle.rules.specs.Net.{Wire, Tree, sink, site, wire, both, wireOf, hangs, at, atRow, driverOhms}
 use Rattle.rules.specs.Slack.{typeOf, seenLoad, repeaterDelay, wireDelay, IsSlack}
-use Rattle.rules.specs.Slack.{load as loadOf}
+use Rattle.rules.specs.Slack.{loadOf}
 use Rattle.rules.specs.Pairs.{On, Pair, Beats, Below, Unbeaten, Legal, Reached, Planned}
-use Rattle.rules.specs.Refused.{bytes, entries}
+use Rattle.examples.specs.Texts.{bytes, entries}
 use Rattle.laws.specs.Integers.{times, hi, lo, minℤ, ≤-or-<, ≤-trans, order, ⊖-mono}
 use Rattle.laws.specs.Candidates.{Cand, Front, thinIn, put, stand, standBy}
 use Rattle.laws.specs.Thinning.{climb, climbed}
@@ -31,7 +31,7 @@ use Rattle.laws.specs.Trees.{slack-is}
 use Rattle.laws.specs.Trees.{time as timeOf}
 use Rattle.laws.specs.Method.{Proper, Reaches, pinned, frontOf, method, planned}
 use Rattle.laws.specs.Listing.{pairOf, lone, listed, Meets, meeting, meeting-unbeaten}
-use Rattle.laws.specs.Lists.{any-all}
+use Rattle.laws.specs.Lists.{any-all, EveryTwo, leads, ends}
 
 -- ---- what an example says
 -- a placement by the marks of its sites in their order, none past them
@@ -228,11 +228,11 @@ below-by : (a b c d : ℕ) → a < c → b < d → Below (paired (a, b)) (paired
 unfolding hi lo
 below-by a b c d h k = record { load = h; time = omega times }
 
-two-below : (a b c d : ℕ) → a < c → b < d → Pairwise Below (paired (a, b) ∷ paired (c, d) ∷ [])
-two-below a b c d h k = cons (cons (below-by a b c d h k) nil) (cons nil nil)
+two-below : (a b c d : ℕ) → a < c → b < d → EveryTwo Below (paired (a, b) ∷ paired (c, d) ∷ [])
+two-below a b c d h k = leads (cons (below-by a b c d h k) nil) (leads nil ends)
 
-convex : Pairwise Below (paired (1, 0) ∷ paired (2, 10) ∷ paired (3, 100) ∷ [])
-convex = cons (cons (below-by 1 0 2 10 (omega arith) (omega arith)) (cons (below-by 1 0 3 100 (omega arith) (omega arith)) nil)) (two-below 2 10 3 100 (omega arith) (omega arith))
+convex : EveryTwo Below (paired (1, 0) ∷ paired (2, 10) ∷ paired (3, 100) ∷ [])
+convex = leads (cons (below-by 1 0 2 10 (omega arith) (omega arith)) (cons (below-by 1 0 3 100 (omega arith) (omega arith)) nil)) (two-below 2 10 3 100 (omega arith) (omega arith))
 
 none-legal : (types : List Repeater) (t : Tree) → Legal types t (marked [])
 none-legal types t = marked-legal types t [] nil (λ j h. absurd (omega arith))
@@ -252,7 +252,7 @@ two-B = marked-legal (typesBy 10) B₀ (1 ∷ 1 ∷ []) (cons (omega arith) (con
 
 -- all of it, computed from the definitions
 pub examples : Examples
-unfolding bytes textEntries linesOf lineOf lettered typeLine driverLine pointLine sinkLine parted number digits signed typesOf rowsOf rowOf wireOf hangs at atRow rowOfSite typesBy wireBy A₀ A₁ B₀ B₁ B₂ C₀ marked loadOf seenLoad timeOf top pinned typeOf repeaterDelay wireDelay frontOf siteStep typeStep wireStep climb climbed behind buffered value best pick thinIn put stand standBy decLe ≤-or-< order merge mergeAt next joined minℤ hi lo _⊖_ meeting pairOf lone
+unfolding bytes textEntries linesOf lineOf lettered typeLine driverLine pointLine sinkLine parted number moreDigits signed typesOf rowsOf rowOf wireOf hangs at atRow rowOfSite typesBy wireBy A₀ A₁ B₀ B₁ B₂ C₀ marked loadOf seenLoad timeOf top pinned typeOf repeaterDelay wireDelay frontOf siteStep typeStep wireStep climb climbed behind buffered value best pick thinIn put stand standBy decLe ≤-or-< order merge mergeAt next joined minℤ hi lo _⊖_ meeting pairOf lone
 examples = record {
   P1 = record { tree = A₀; tree-is = refl; slack-is = slack-by _ _ A₀ _ _ refl; load-is = refl };
   P2 = record { tree = A₀; tree-is = refl; planned = plan-by _ _ A₀ _ _ _ proper-A (one-A (typesBy 10) (omega arith)) refl refl refl };
@@ -272,8 +272,8 @@ examples = record {
   P10-unbeaten = meeting-unbeaten (two-below _ _ _ _ (omega arith) (omega arith)) (two-below _ _ _ _ (omega arith) (omega arith));
   P11-equal = beats-by _ _ _ _ (omega arith) (omega arith) (omega arith);
   P11-less = beats-by _ _ _ _ (omega arith) (omega arith) (omega arith);
-  convex-kept = best-meeting 1 _ (meeting-unbeaten convex (cons nil nil)) (cons (omega times) (cons (omega times) nil)) (there (here refl));
-  convex-dropped = best-meeting 1 _ (meeting-unbeaten (two-below _ _ _ _ (omega arith) (omega arith)) (cons nil nil)) (cons (omega times) (cons (omega times) nil)) (there (here refl));
+  convex-kept = best-meeting 1 _ (meeting-unbeaten convex (leads nil ends)) (cons (omega times) (cons (omega times) nil)) (there (here refl));
+  convex-dropped = best-meeting 1 _ (meeting-unbeaten (two-below _ _ _ _ (omega arith) (omega arith)) (leads nil ends)) (cons (omega times) (cons (omega times) nil)) (there (here refl));
   wire-kept = record { tree = B₂; tree-is = refl; unbeaten = list-by _ B₂ _ ((λ h. h), tt) refl };
   wire-makes = refl;
   wire-beaten = beats-by _ _ _ _ (omega arith) (omega arith) (omega arith);

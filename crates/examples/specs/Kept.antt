@@ -16,11 +16,12 @@ use Rattle.rules.specs.declared.Listing.the-variants.{Listed}
 use Rattle.rules.specs.Lists.{written}
 use Rattle.rules.specs.Quantities.{placementRoom, workRoom}
 use Rattle.rules.specs.Entries.{typesOf, rowsOf}
-use Rattle.rules.specs.Text.{textEntries, linesOf, lineOf, lettered, typeLine, driverLine, pointLine, sinkLine, parted, number, digits, signed}
+use Rattle.rules.specs.Text.{textEntries, linesOf, lineOf, lettered, typeLine, driverLine, pointLine, sinkLine, parted, number, moreDigits, signed}
 use Rattle.rules.specs.Placements.{markIn, marks}
-use Rattle.rules.specs.Refused.{bytes, entries}
+use Rattle.examples.specs.Texts.{bytes, entries}
 use Rattle.rules.specs.Answers.{readFigures, checkFigures, slackFigures, planFigures, listFigures}
-use Rattle.rules.specs.Promises.{ReadPromise, CheckPromise, SlackPromise, Storage, Columns, columns, PlanPromise, shortPlacement, Lent, shortLent, ListPromise}
+use Rattle.rules.specs.Promises.{ReadPromise, CheckPromise, SlackPromise, PlanPromise, ListPromise, tabled}
+use Rattle.rules.specs.Areas.{Storage, Columns, columns, shortPlacement, Lent, shortLent, listAreas, planAreas}
 use Rattle.laws.specs.Method.{Proper}
 use Rattle.laws.specs.Listing.{listed-length}
 use Rattle.laws.specs.Settled.{one-tree}
@@ -71,16 +72,16 @@ none-marked = fun-ext (λ j. none-at (j / 16) (j % 16))
 -- ---- the answers
 -- read_net: one type and three rows, in the tables
 pub read-kept : ReadPromise (bytes netA) blank (Read 1 3) (tablesIn netA)
-unfolding ReadPromise tablesIn readFigures bytes textEntries linesOf lineOf lettered typeLine driverLine pointLine sinkLine parted number digits signed typesOf rowsOf
+unfolding ReadPromise tablesIn readFigures bytes textEntries linesOf lineOf lettered typeLine driverLine pointLine sinkLine parted number moreDigits signed typesOf rowsOf
 read-kept = rw text-A (refl, refl)
 
 -- check_net: accepted
-pub check-kept : CheckPromise (tablesIn netA) (countsIn netA) Accepted
+pub check-kept : CheckPromise (tabled (tablesIn netA) (countsIn netA)) Accepted
 unfolding CheckPromise checkFigures
 check-kept = rw (lends-A .taken) refl
 
 -- slack_of: 430 and 20 without a repeater
-pub slack-kept : SlackPromise (tablesIn netA) (countsIn netA) (0 ∷ 0 ∷ 0 ∷ 0 ∷ []) (Slack (record { 0 = pos 430 }) (record { 0 = 20 }))
+pub slack-kept : SlackPromise (tabled (tablesIn netA) (countsIn netA)) (0 ∷ 0 ∷ 0 ∷ 0 ∷ []) (Slack (record { 0 = pos 430 }) (record { 0 = 20 }))
 unfolding SlackPromise slackFigures
 slack-kept = rw (none-A, lends-A .whole) (record { slack = pos 430; load = 20 }, refl, record { tree = examples .P1 .tree; tree-is = examples .P1 .tree-is; slack = rw none-marked (examples .P1 .slack-is); load = rw none-marked (examples .P1 .load-is) })
 
@@ -90,12 +91,12 @@ proper-A₁ = ((λ h. h), tt)
 
 module _ {W : Type 0} (s : Storage W) (work : W) (room : s .short work ≡ false) where
   -- plan_net: 687 and 7, type 1 at site 0
-  pub plan-kept : (before : List ℕ) → shortPlacement before ≡ false → PlanPromise s (tablesIn netA) (countsIn netA) before work (Plan (record { 0 = pos 687 }) (record { 0 = 7 })) (written (1 ∷ 0 ∷ 0 ∷ 0 ∷ []) before) (s .cleared work)
+  pub plan-kept : (before : List ℕ) → shortPlacement before ≡ false → PlanPromise s (tabled (tablesIn netA) (countsIn netA)) (planAreas before work) (Plan (record { 0 = pos 687 }) (record { 0 = 7 })) (planAreas (written (1 ∷ 0 ∷ 0 ∷ 0 ∷ []) before) (s .cleared work))
   unfolding PlanPromise planFigures
   plan-kept before long = rw (plan-taken lends-A s work room before long, lends-A .whole) (record { slack = pos 687; load = 7 }, refl, record { tree = examples .P2 .tree; tree-is = examples .P2 .tree-is; words = 1 ∷ 0 ∷ 0 ∷ 0 ∷ []; four = refl; after-is = refl; planned = rw one-marked (examples .P2 .planned) }, refl)
 
   -- list_at row 1: (2, 855), (15, 910)
-  pub list-kept : (before : Lent) → shortLent before ≡ false → ListPromise s (tablesIn netA) (countsIn netA) 1 before work (Listed 2) (record { loads = written (2 ∷ 15 ∷ []) (before .loads); times = written (pos 855 ∷ pos 910 ∷ []) (before .times) }) (s .cleared work)
+  pub list-kept : (before : Lent) → shortLent before ≡ false → ListPromise s (tabled (tablesIn netA) (countsIn netA)) 1 (listAreas before work) (Listed 2) (listAreas (record { loads = written (2 ∷ 15 ∷ []) (before .loads); times = written (pos 855 ∷ pos 910 ∷ []) (before .times) }) (s .cleared work))
   unfolding ListPromise listFigures
   list-kept before long = rw (list-taken lends-A s work room 1 before long rows-A, lends-A .whole) (
     2,

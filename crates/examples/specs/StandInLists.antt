@@ -17,9 +17,10 @@ use Rattle.rules.specs.Entries.{typesOf, rowsOf}
 use Rattle.rules.specs.Tables.{Tables, Counts, tableEntries}
 use Rattle.rules.specs.Net.{Tree, atRow, wire}
 use Rattle.rules.specs.Pairs.{Pair, Beats, Unbeaten, Reached}
-use Rattle.rules.specs.Refused.{entries}
+use Rattle.examples.specs.Texts.{entries}
 use Rattle.rules.specs.Answers.{done, listFigures}
-use Rattle.rules.specs.Promises.{Storage, Lent, shortLent, listRefusal, ListPromise, ListOf}
+use Rattle.rules.specs.Promises.{listRefusal, ListPromise, ListOf, tabled}
+use Rattle.rules.specs.Areas.{Storage, Lent, shortLent, listAreas}
 use Rattle.laws.specs.Lists.{all-head}
 use Rattle.laws.specs.Listing.{NoneBeats, unbeaten-unique, listed-unbeaten, unbeaten-listed}
 use Rattle.laws.specs.Settled.{one-tree}
@@ -31,7 +32,7 @@ open Nets nets using (lends-A, lends-B, rows-A, rows-B)
 -- ---- only the best pair, an empty list, an invented length
 module _ {net : String} (lends : Lends net) {W : Type 0} (s : Storage W) (work work′ : W) (room : s .short work ≡ false) (row : ℕ) (inside : leb (countsIn net .rows) row ≡ false) (before after : Lent) (long : shortLent before ≡ false) where
   -- the list handed out is the row's, and nothing else
-  pub listed-exactly : (l : List Pair) (a : Listing) → IsList net row l → ListPromise s (tablesIn net) (countsIn net) row before work a after work′ → (a ≡ Listed (length l)) × (after .loads ≡ written (map (λ c. c .load) l) (before .loads)) × (after .times ≡ written (map (λ c. c .time) l) (before .times))
+  pub listed-exactly : (l : List Pair) (a : Listing) → IsList net row l → ListPromise s (tabled (tablesIn net) (countsIn net)) row (listAreas before work) a (listAreas after work′) → (a ≡ Listed (length l)) × (after .loads ≡ written (map (λ c. c .load) l) (before .loads)) × (after .times ≡ written (map (λ c. c .time) l) (before .times))
   unfolding listFigures
   listed-exactly l a f p =
       let (len, e, g, w) = list-given (tablesIn net) (countsIn net) s work row before a after work′ (list-taken lends s work room row before long inside) p in
@@ -44,15 +45,15 @@ module _ {net : String} (lends : Lends net) {W : Type 0} (s : Storage W) (work w
 
 module _ {W : Type 0} (s : Storage W) (work work′ : W) (room : s .short work ≡ false) (before after : Lent) (long : shortLent before ≡ false) where
   -- the list at row 1 of net A has two pairs, whatever length is claimed
-  pub invented-length : (len : ℕ) → ¬ (len ≡ 2) → ¬ (ListPromise s (tablesIn netA) (countsIn netA) 1 before work (Listed len) after work′)
+  pub invented-length : (len : ℕ) → ¬ (len ≡ 2) → ¬ (ListPromise s (tabled (tablesIn netA) (countsIn netA)) 1 (listAreas before work) (Listed len) (listAreas after work′))
   invented-length len other p = let (e, l, t) = listed-exactly lends-A s work work′ room 1 rows-A before after long (paired (2, 855) ∷ paired (15, 910) ∷ []) (Listed len) (examples .P3) p in other (cc)
 
   -- so it is not empty
-  pub empty-list : ¬ (ListPromise s (tablesIn netA) (countsIn netA) 1 before work (Listed 0) after work′)
+  pub empty-list : ¬ (ListPromise s (tabled (tablesIn netA) (countsIn netA)) 1 (listAreas before work) (Listed 0) (listAreas after work′))
   empty-list = invented-length 0 (omega arith)
 
   -- nor one pair alone
-  pub only-the-best : ¬ (ListPromise s (tablesIn netA) (countsIn netA) 1 before work (Listed 1) after work′)
+  pub only-the-best : ¬ (ListPromise s (tabled (tablesIn netA) (countsIn netA)) 1 (listAreas before work) (Listed 1) (listAreas after work′))
   only-the-best = invented-length 1 (omega arith)
 
 -- ---- thinning at some rows and copying at the others
@@ -73,7 +74,7 @@ written-at : {A : Type 0} (f : Pair → A) (list : List Pair) (before after : Li
 unfolding written
 written-at f list before after i d e h = ap (λ l. getD l i (f d)) e ∙ List·getD-append (map f list) _ (f d) i (omega (arith, length-map list f)) ∙ List·getD-map f list i d
 
-module _ (t : Tables) (n : Counts) {W : Type 0} (s : Storage W) (work work′ : W) (row : ℕ) (before after : Lent) (taken : listRefusal (shortLent before || s .short work) t n row ≡ none) (len : ℕ) (tree : Tree) (tree-is : atRow (rowsOf (tableEntries t n)) row ≡ some tree) (promise : ListPromise s t n row before work (Listed len) after work′) where
+module _ (t : Tables) (n : Counts) {W : Type 0} (s : Storage W) (work work′ : W) (row : ℕ) (before after : Lent) (taken : listRefusal (shortLent before || s .short work) (tabled t n) row ≡ none) (len : ℕ) (tree : Tree) (tree-is : atRow (rowsOf (tableEntries t n)) row ≡ some tree) (promise : ListPromise s (tabled t n) row (listAreas before work) (Listed len) (listAreas after work′)) where
   -- the unbeaten pairs stand in the areas
   stand : (list : List Pair) × Unbeaten (Reached (typesOf (tableEntries t n)) tree) list × (len ≡ length list) × ((i : ℕ) → i < length list → pairAt after i ≡ getD list i (paired (0, 0)))
   unfolding listFigures pairAt
@@ -95,7 +96,7 @@ module _ (t : Tables) (n : Counts) {W : Type 0} (s : Storage W) (work work′ : 
   copied i h d = handed-out i h .none d
 
 -- at row 1 of net B, a copy of what meets there keeps (20, 850), which (14, 850) beats
-pub copied-B : {W : Type 0} (s : Storage W) (work work′ : W) → s .short work ≡ false → (before after : Lent) → shortLent before ≡ false → (len i : ℕ) → i < len → pairAt after i ≡ paired (20, 850) → ¬ (ListPromise s (tablesIn netB) (countsIn netB) 1 before work (Listed len) after work′)
+pub copied-B : {W : Type 0} (s : Storage W) (work work′ : W) → s .short work ≡ false → (before after : Lent) → shortLent before ≡ false → (len i : ℕ) → i < len → pairAt after i ≡ paired (20, 850) → ¬ (ListPromise s (tabled (tablesIn netB) (countsIn netB)) 1 (listAreas before work) (Listed len) (listAreas after work′))
 copied-B s work work′ room before after long len i h e p =
     copied (tablesIn netB) (countsIn netB) s work work′ 1 before after (list-taken lends-B s work room 1 before long rows-B) len (l .tree) (rw (lends-B .whole) (l .tree-is)) p i h (paired (14, 850)) (rw (lends-B .whole) (all-head (l .unbeaten .reached))) (rw e (beats-by 14 850 20 850 (omega arith) (omega arith) (omega arith)))
   where

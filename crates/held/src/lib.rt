@@ -1,19 +1,19 @@
 // The planner on a run of records of its own: each entry holds the run for its call, all zero, and lends it to the planner over records.
+use rooms::WORK_ROOM;
 use rules::Cand;
 use rules::Listing;
 use rules::Planning;
 ghost use mathlib.Core.Path.{_≡_};
-ghost use Rattle.rules.specs.Promises.{PlanPromise, ListPromise, records};
-ghost use Rattle.laws.specs.Checked.{tablesOf, countsOf};
-ghost use Rattle.chosen.specs.Lent.{lentOf};
-ghost use Rattle.held.specs.Held.{blankRun};
+ghost use Rattle.rules.specs.Promises.{PlanPromise, ListPromise, tabled};
+ghost use Rattle.rules.specs.Areas.{records, lentOf, listAreas, planAreas, blankRun};
+ghost use Rattle.rules.specs.Tables.{tablesOf, countsOf};
 
 // A run of records, all zero.
-fn blank() -> [Cand; 768]
+fn blank() -> [Cand; WORK_ROOM]
     ensures { λ r. ⌜ r ≡ blankRun ⌝ }
 {
     let none = values::blank();
-    [none; 768]
+    [none; WORK_ROOM]
 }
 
 // A placement of greatest slack, and of those the least load on the driver; its slack and that load.
@@ -25,7 +25,7 @@ pub fn plan_held(
     row_count: usize,
     placement: &mut [u64],
 ) -> Planning
-    ensures { λ r. ⌜ PlanPromise records (tablesOf (now (types .entry)) (now (rows .entry)) (now (due .entry))) (countsOf «type_count» «row_count») (now (placement .entry)) blankRun r (now (placement .exit)) blankRun ⌝ }
+    ensures { λ r. ⌜ PlanPromise records (tabled (tablesOf (now (types .entry)) (now (rows .entry)) (now (due .entry))) (countsOf «type_count» «row_count»)) (planAreas (now (placement .entry)) blankRun) r (planAreas (now (placement .exit)) blankRun) ⌝ }
 {
     let mut run = blank();
     records::plan_records(types, rows, due, type_count, row_count, placement, &mut run)
@@ -42,7 +42,7 @@ pub fn list_held(
     list_loads: &mut [u32],
     list_times: &mut [i64],
 ) -> Listing
-    ensures { λ r. ⌜ ListPromise records (tablesOf (now (types .entry)) (now (rows .entry)) (now (due .entry))) (countsOf «type_count» «row_count») row (lentOf (now («list_loads» .entry)) (now («list_times» .entry))) blankRun r (lentOf (now («list_loads» .exit)) (now («list_times» .exit))) blankRun ⌝ }
+    ensures { λ r. ⌜ ListPromise records (tabled (tablesOf (now (types .entry)) (now (rows .entry)) (now (due .entry))) (countsOf «type_count» «row_count»)) row (listAreas (lentOf (now («list_loads» .entry)) (now («list_times» .entry))) blankRun) r (listAreas (lentOf (now («list_loads» .exit)) (now («list_times» .exit))) blankRun) ⌝ }
 {
     let mut run = blank();
     records::listing::list_records(

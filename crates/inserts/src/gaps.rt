@@ -1,5 +1,5 @@
 // Where a new candidate belongs in a list: past those with less of both, before those with more of both; what stands between it
-// covers. Where one of the list beats it, it belongs nowhere.
+// beats. Where one of the list covers it, its equal too, it belongs nowhere: what stands stays.
 use rules::Femtofarad;
 use rules::Femtosecond;
 ghost use mathlib.Core.Path.{_≡_};
@@ -34,7 +34,7 @@ pub fn covering_at(
     pairs::is_covering(load, time, Femtofarad(loads[i]), Femtosecond(times[i]))
 }
 
-// Whether there is a candidate at i and it beats the new one.
+// Whether there is a candidate at i and it covers the new one.
 pub fn covered_at(
     loads: &[u32],
     times: &[i64],
@@ -90,7 +90,7 @@ pub fn past_from(
     p
 }
 
-// The new one belongs between `from` and `past`, unless it is beaten.
+// The new one belongs between `from` and `past`, unless it is covered.
 pub struct Gap {
     pub covered: bool,
     pub from: usize,

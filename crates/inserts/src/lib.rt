@@ -8,14 +8,14 @@ use rules::Femtofarad;
 use rules::Femtosecond;
 ghost use Prim.Native.Nat.{_+_, _≤_, _<_};
 ghost use Rattle.rules.specs.Quantities.{workRoom};
-ghost use Rattle.rules.specs.Lists.{Pairwise};
+ghost use Rattle.laws.specs.Lists.{EveryTwo};
 ghost use Rattle.laws.specs.Candidates.{Below};
 ghost use Rattle.columns.specs.Parts.{part};
 ghost use Rattle.columns.specs.Run.{run};
 ghost use Rattle.columns.specs.Made.{Room};
 ghost use Rattle.inserts.specs.Gaps.{Grows, Fills, Thins};
 
-// Where nothing is dropped and there is no room before the list, what comes behind the new one moves up; how far.
+// Where nothing is dropped and there is no room before the list, what comes after the new one moves up; how far.
 pub fn grow(
     loads: &mut [u32],
     times: &mut [i64],
@@ -82,7 +82,7 @@ pub fn put_in(
 ) -> Bounds
     requires { ⌜ Room (now loads) (now times) (now words) ⌝ }
     requires { ⌜ (at ≤ start) × ((start < end) × ((1 ≤ by) × ((end + by + at ≤ from + start) × ((end ≤ from) × (from < workRoom))))) ⌝ }
-    requires { ⌜ Pairwise Below (part start end (run (now loads) (now times) (now words))) ⌝ }
+    requires { ⌜ EveryTwo Below (part start end (run (now loads) (now times) (now words))) ⌝ }
     ensures { λ b. ⌜ Thins (run (now (loads .entry)) (now (times .entry)) (now (words .entry))) (run (now (loads .exit)) (now (times .exit)) (now (words .exit))) from at start end by (b .start) (b .end) ⌝ }
 {
     let load = Femtofarad(loads[from]);

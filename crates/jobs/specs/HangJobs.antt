@@ -2,16 +2,17 @@
 use mathlib.Core.Path.{_≡_, refl, ap, _∙_}
 use mathlib.Core.Bool.{Bool, true, false, cond}
 use mathlib.Core.List.{List}
-use Prim.Native.Nat.{ℕ, _+_, _-_, _≤_, _<_}
+use Prim.Native.Nat.{ℕ, _+_, _-_, _≤_, _<_, _*_}
 use native.Mathlib.Omega.{arith}
 use lib.IntN.{pos}
 use lib.ListN.{length}
+use Rattle.rules.specs.Tables.{typeWords}
 use Rattle.rules.specs.declared.Row.{Row}
-use Rattle.rules.specs.Quantities.{mostOhms, workRoom}
+use Rattle.rules.specs.Quantities.{mostOhms, workRoom, typesRoom}
 use Rattle.rules.specs.Net.{Wire}
-use Rattle.laws.specs.Joining.{join}
+use Rattle.laws.specs.Joining.{joinMarks}
 use Rattle.laws.specs.Steps.{merge}
-use Rattle.laws.specs.Moves.{behind, wireStep}
+use Rattle.laws.specs.Moves.{wireStep}
 use Rattle.laws.specs.Bounds.{wireStep-length}
 use Rattle.columns.specs.Parts.{part, part-less, part-part, part-length}
 use Rattle.columns.specs.Run.{Candidate}
@@ -19,8 +20,8 @@ use Rattle.columns.specs.Made.{Stand, Gives, wireOf}
 use Rattle.branches.specs.Branching.{Pair, Merged, join-gives}
 use Rattle.walks.specs.Made.{Wired, Hang}
 use Rattle.rules.specs.declared.Cand.{Cand}
+use Rattle.rules.specs.Areas.{zeros}
 use Rattle.turns.specs.declared.Pass.{Pass}
-use Rattle.rules.specs.Promises.{zeros}
 use Rattle.values.specs.Records.{cands}
 use Rattle.runs.specs.Cands.{cands-length}
 use Rattle.runs.specs.Passes.{Safe, Swept}
@@ -32,7 +33,7 @@ use Rattle.stages.specs.declared.Job.{Job}
 use Rattle.stages.specs.Stages.{onTo, wirePass, branchPass, movePass, beginOf, Ended, Inside, Ends}
 use Rattle.jobs.specs.Jobs.{Able, over, more, Worked, stop, pass, hangJob}
 
-module _ (ts : List ℕ) (types-long : 12 ≤ length ts) (x : Row) (ohms : x .resistance .0 ≤ mostOhms) where
+module _ (ts : List ℕ) (types-long : typeWords * typesRoom ≤ length ts) (x : Row) (ohms : x .resistance .0 ≤ mostOhms) where
   abbrev link : Wire
   link = wireOf (x .resistance .0) (x .capacitance .0)
 
@@ -61,7 +62,7 @@ module _ (ts : List ℕ) (types-long : 12 ≤ length ts) (x : Row) (ohms : x .re
     wired s = wires-swept (x .resistance) (x .capacitance) ohms w (at + m) own zeros (record { 0 = pos 0 }) long stand (W .behind-fit) (rw begins at s)
 
     ends : (e : Pass) (v : List Cand) → Swept (beginOf ts j) w e v → Ends j e
-    ends e v s = record { kept = λ h k. wired s .0; behind = λ h k. absurd (omega arith) }
+    ends e v s = record { kept = λ h k. wired s .0; past = λ h k. absurd (omega arith) }
 
     ended : (e : Pass) (r : Job) → Ended ts j e r → r ≡ onTo j (e .to - (at + m)) 0 (j .best)
     unfolding Ended
@@ -80,7 +81,7 @@ module _ (ts : List ℕ) (types-long : 12 ≤ length ts) (x : Row) (ohms : x .re
   -- ---- a list waits
   module _ (at m own : ℕ) (w : List Cand) (long : workRoom ≤ length w) (H : Hang (cands w) at m own link) where
     abbrev whole : List Candidate
-    whole = merge join (wireStep link (part (at + m) (at + m + own) (cands w))) (part at (at + m) (cands w))
+    whole = merge joinMarks (wireStep link (part (at + m) (at + m + own) (cands w))) (part at (at + m) (cands w))
 
     abbrev begun : Job
     begun = hangJob x true at m own
@@ -119,9 +120,9 @@ module _ (ts : List ℕ) (types-long : 12 ≤ length ts) (x : Row) (ohms : x .re
       merged s = branches v at m k zeros (record { 0 = pos 0 }) pair still (rw branches-begin at s)
 
       join-ends : (e : Pass) (u : List Cand) → Swept (beginOf ts (joins k)) v e u → Ends (joins k) e
-      join-ends e u s = record { kept = λ h k. absurd (omega arith); behind = λ h k. merged s .behind }
+      join-ends e u s = record { kept = λ h k. absurd (omega arith); past = λ h k. merged s .past }
 
-      -- joined behind both, up to o
+      -- joined past both, up to o
       abbrev lowers : ℕ → Job
       lowers o = onTo (joins k) k (o - (at + m + k)) (begun .best)
 
@@ -135,7 +136,7 @@ module _ (ts : List ℕ) (types-long : 12 ≤ length ts) (x : Row) (ohms : x .re
         moves-begin = refl
 
         inside-work : at + m + k + (o - (at + m + k)) ≤ workRoom
-        inside-work = omega (arith, M .behind, M .top, pair .place)
+        inside-work = omega (arith, M .past, M .top, pair .place)
 
         lower-safe : Safe (beginOf ts (lowers o)) u
         lower-safe = rw moves-begin (moves-safe u (at + m + k) at (o - (at + m + k)) (omega arith) inside-work at zeros (record { 0 = pos 0 }) (omega (arith, inside-work, pair .first)) (rw same₂ long))
@@ -147,7 +148,7 @@ module _ (ts : List ℕ) (types-long : 12 ≤ length ts) (x : Row) (ohms : x .re
         lower-able : Able ts (lowers o) u
         lower-able =
             more {j = lowers o} (record { going = omega arith; few = omega arith; types-few = omega arith; types-long = types-long; number = λ h. absurd (omega arith); room = omega (arith, inside-work) }) lower-safe
-            (λ e v s. record { kept = λ h k. absurd (omega arith); behind = λ h k. absurd (omega arith) })
+            (λ e v s. record { kept = λ h k. absurd (omega arith); past = λ h k. absurd (omega arith) })
             (λ e v r s q. over {j = r} (rw (lower-ended e r q) (omega arith)))
 
         lowered : {e : Pass} {z : List Cand} → Swept (beginOf ts (lowers o)) u e z → Gives (cands w) (cands z) at (o - (at + m + k)) whole

@@ -1,14 +1,14 @@
--- What every pass of a job keeps holds where none is left; and a job changes nothing behind the room. Assumes nothing.
+-- What every pass of a job keeps holds where none is left; and a job changes nothing past the room. Assumes nothing.
 use mathlib.Core.Path.{_≡_, refl, _∙_}
 use mathlib.Core.List.{List}
 use Prim.Native.Nat.{ℕ, zero, suc, _-_, _≤_, _<_}
 use native.Mathlib.Omega.{arith}
-use lib.ListN.{length, drop}
+use lib.ListN.{drop}
 use Rattle.rules.specs.Quantities.{workRoom}
 use Rattle.rules.specs.declared.Cand.{Cand}
 use Rattle.turns.specs.declared.Pass.{Pass}
 use Rattle.runs.specs.Passes.{Safe, Swept}
-use Rattle.runs.specs.Beyond.{swept-length, swept-behind}
+use Rattle.runs.specs.Beyond.{swept-past}
 use Rattle.stages.specs.declared.Job.{Job}
 use Rattle.stages.specs.Stages.{beginOf, Ended, Inside, Ends}
 use Rattle.jobs.specs.Jobs.{Able, over, more, Worked, stop, pass}
@@ -36,10 +36,6 @@ module _ (types : List ℕ) (Inv : Job → List Cand → Type 0)
   kept-worked {j} (stop h) i = (j, i, h, refl)
   kept-worked {j} {w} (pass {r = r} {v = v} e l s k h) i = kept-worked h (step j w i l e v r s k)
 
-pub worked-length : {types : List ℕ} {j : Job} {w w′ : List Cand} {n : ℕ} → Worked types j w w′ n → length w′ ≡ length w
-worked-length (stop h) = refl
-worked-length (pass e l s k h) = worked-length h ∙ swept-length s
-
-pub worked-behind : {types : List ℕ} {j : Job} {w w′ : List Cand} {n : ℕ} → Able types j w → Worked types j w w′ n → drop workRoom w′ ≡ drop workRoom w
-worked-behind a (stop h) = refl
-worked-behind a (pass e l s k h) = worked-behind (able-next a l s k) h ∙ swept-behind (able-safe a l) s
+pub worked-past : {types : List ℕ} {j : Job} {w w′ : List Cand} {n : ℕ} → Able types j w → Worked types j w w′ n → drop workRoom w′ ≡ drop workRoom w
+worked-past a (stop h) = refl
+worked-past a (pass e l s k h) = worked-past (able-next a l s k) h ∙ swept-past (able-safe a l) s

@@ -13,10 +13,10 @@ use Rattle.rules.specs.Quantities.{rowsRoom}
 use Rattle.rules.specs.Refusals.{isSink}
 use Rattle.rules.specs.Tables.{rowWords}
 use Rattle.laws.specs.Tabled.{rowAt}
-use Rattle.rows.specs.Links.{linksRoom, nextAt, sitesAt}
 use Rattle.rules.specs.declared.Cand.{Cand}
+use Rattle.rules.specs.Areas.{zeros}
 use Rattle.turns.specs.declared.Pass.{Pass}
-use Rattle.rules.specs.Promises.{zeros}
+use Rattle.rooms.specs.Links.{nextAt, sitesAt, linksRoom}
 use Rattle.values.specs.Records.{plainOf}
 use Rattle.runs.specs.Passes.{Safe, Swept}
 use Rattle.stages.specs.declared.Job.{Job}

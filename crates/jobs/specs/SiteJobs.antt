@@ -2,7 +2,7 @@
 use mathlib.Core.Path.{_≡_, refl, sym, ap, ap₂, _∙_, fun-ext}
 use mathlib.Core.Bool.{Bool, true, false, cond}
 use mathlib.Core.List.{List, [], _∷_}
-use Prim.Native.Nat.{ℕ, suc, _+_, _-_, _*_, _≤_, _<_}
+use Prim.Native.Nat.{ℕ, suc, _+_, _-_, _≤_, _<_}
 use native.Mathlib.Omega.{arith}
 use native.Mathlib.Numerals.{add-one}
 use native.Mathlib.Decide.{decLt}
@@ -11,15 +11,16 @@ use lib.ListN.{length, getD, set, replicate, length-set}
 use lib.Seq.{getD-set-same, getD-set-other}
 use borrow.Author.Tests.{lt-ltb, le-ltb}
 use Rattle.rules.specs.declared.Row.{Row}
-use Rattle.rules.specs.Quantities.{sitesRoom, workRoom}
-use Rattle.rules.specs.Lists.{Pairwise}
+use Rattle.rules.specs.Quantities.{sitesRoom, workRoom, typesRoom}
 use Rattle.rules.specs.Entries.{Repeater}
 use Rattle.rules.specs.Placements.{marks}
 use Rattle.rules.specs.Slack.{typeOf, repeaterDelay}
 use Rattle.rules.specs.Refusals.{isSink}
-use Rattle.laws.specs.Lists.{all-self, any-imp}
+use Rattle.units.specs.Times.{own-of}
+use Rattle.repeaters.specs.Repeaters.{bufferOf, bufferAt}
+use Rattle.laws.specs.Lists.{all-self, any-imp, EveryTwo}
 use Rattle.laws.specs.Candidates.{Below, thinIn, covers-refl, front-in}
-use Rattle.laws.specs.Joining.{set as mark}
+use Rattle.laws.specs.Joining.{withMark}
 use Rattle.laws.specs.Steps.{best, value, buffered}
 use Rattle.laws.specs.Moves.{typeStep, siteStep}
 use Rattle.laws.specs.Tabled.{repeaterAt, repeatersFrom, repeaters-length, repeaters-at}
@@ -31,8 +32,8 @@ use Rattle.sites.specs.Sites.{chosenBy}
 use Rattle.walks.specs.Shown.{siteList}
 use Rattle.walks.specs.Made.{Sited, Typed}
 use Rattle.rules.specs.declared.Cand.{Cand}
+use Rattle.rules.specs.Areas.{zeros}
 use Rattle.turns.specs.declared.Pass.{Pass}
-use Rattle.rules.specs.Promises.{zeros}
 use Rattle.values.specs.Records.{candOf, cands}
 use Rattle.runs.specs.Cands.{cands-length}
 use Rattle.runs.specs.Passes.{Safe, Swept}
@@ -54,21 +55,21 @@ unfolding typeOf
 type-is ts count t h = repeaters-at ts _ 0 count t h ∙ ap (repeaterAt ts) (let z : 0 + t ≡ t = omega arith in z)
 
 site-more : (ts : List ℕ) (count k t : ℕ) (l : List Candidate) → t < count → 1 ≤ length l
-    → siteStep (repeatersFrom ts 0 count) (mark k) (suc t) l ≡ thinIn (chosenBy (repeaterAt ts t) (mark k (suc t)) l) (siteStep (repeatersFrom ts 0 count) (mark k) t l)
+    → siteStep (repeatersFrom ts 0 count) (withMark k) (suc t) l ≡ thinIn (chosenBy (repeaterAt ts t) (withMark k (suc t)) l) (siteStep (repeatersFrom ts 0 count) (withMark k) t l)
 unfolding siteStep typeStep chosenBy
 site-more ts count k t [] h some = absurd (omega arith)
 site-more ts count k t (x ∷ l) h some = rw (delay-is (repeatersFrom ts 0 count) t, type-is ts count t h)
 
-thin-rising : (c : Candidate) {l : List Candidate} → Pairwise Below l → Pairwise Below (thinIn c l)
+thin-rising : (c : Candidate) {l : List Candidate} → EveryTwo Below l → EveryTwo Below (thinIn c l)
 thin-rising c {l} r = front-in c (record { rising = r; sound = all-self l; whole = λ d e. any-imp (λ x q. rw q (covers-refl d)) e }) .rising
 
 -- the best as a pass holds it, with its mark
-chosen-is : (ts : List ℕ) (t k : ℕ) (x : Candidate) (l : List Candidate) (e : Pass) → candOf (e .held) ≡ best (delayOf (getD ts (3 * t + 2) 0) (getD ts (3 * t + 1) 0)) x l → e .worth .0 ≡ value (delayOf (getD ts (3 * t + 2) 0) (getD ts (3 * t + 1) 0)) (best (delayOf (getD ts (3 * t + 2) 0) (getD ts (3 * t + 1) 0)) x l)
-    → candidate (getD ts (3 * t) 0) (e .worth .0) (mark k (t + 1) (marks (e .held .words))) ≡ chosenBy (repeaterAt ts t) (mark k (t + 1)) (x ∷ l)
-unfolding chosenBy buffered repeaterAt
+chosen-is : (ts : List ℕ) (t k : ℕ) (x : Candidate) (l : List Candidate) (e : Pass) → candOf (e .held) ≡ best (delayOf (repeaterAt ts t .own) (repeaterAt ts t .resistance)) x l → e .worth .0 ≡ value (delayOf (repeaterAt ts t .own) (repeaterAt ts t .resistance)) (best (delayOf (repeaterAt ts t .own) (repeaterAt ts t .resistance)) x l)
+    → candidate (bufferAt ts t .input .0) (e .worth .0) (withMark k (t + 1) (marks (e .held .words))) ≡ chosenBy (repeaterAt ts t) (withMark k (t + 1)) (x ∷ l)
+unfolding chosenBy buffered repeaterAt bufferAt bufferOf
 chosen-is ts t k x l e f g = rw (g, ← f)
 
-module _ (ts : List ℕ) (count : ℕ) (T : Typed ts count) (x : Row) (k at own : ℕ) (w : List Cand) (long : workRoom ≤ length w) (n : ℕ) (v₁ : List Cand) (same₁ : length v₁ ≡ length w) (own-is : cond (isSink (x .kind)) 1 own ≡ n) (room₀ : at + 0 + own ≤ 768)
+module _ (ts : List ℕ) (count : ℕ) (T : Typed ts count) (x : Row) (k at own : ℕ) (w : List Cand) (long : workRoom ≤ length w) (n : ℕ) (v₁ : List Cand) (same₁ : length v₁ ≡ length w) (own-is : cond (isSink (x .kind)) 1 own ≡ n) (room₀ : at + 0 + own ≤ workRoom)
     (pin-safe : Safe (pinPass (siteJob x k count at own)) w) (pinned : (e : Pass) (v : List Cand) → Swept (pinPass (siteJob x k count at own)) w e v → v ≡ v₁) (S : Sited (cands v₁) (at + 0) n count (x .site) k) where
   abbrev cnt : ℕ
   cnt = cond (x .site) count 0
@@ -102,27 +103,27 @@ module _ (ts : List ℕ) (count : ℕ) (T : Typed ts count) (x : Row) (k at own 
 
   -- the first t types are chosen
   record Choices (t : ℕ) (best : List Cand) : Type 0 where
-    four : length best ≡ 4
-    made : (i : ℕ) → i < t → candOf (getD best i unset) ≡ chosenBy (repeaterAt ts i) (mark k (i + 1)) l
+    four : length best ≡ typesRoom
+    made : (i : ℕ) → i < t → candOf (getD best i unset) ≡ chosenBy (repeaterAt ts i) (withMark k (i + 1)) l
 
   -- and t of them are put in
   record Puts (t len : ℕ) (v : List Cand) : Type 0 where
     same : length v ≡ length w
     few : len ≤ n + t
     before : part 0 (at + 0) (cands v) ≡ part 0 (at + 0) (cands v₁)
-    list : part (at + 0) (at + 0 + len) (cands v) ≡ siteStep (repeatersFrom ts 0 count) (mark k) t l
-    rising : Pairwise Below (part (at + 0) (at + 0 + len) (cands v))
+    list : part (at + 0) (at + 0 + len) (cands v) ≡ siteStep (repeatersFrom ts 0 count) (withMark k) t l
+    rising : EveryTwo Below (part (at + 0) (at + 0 + len) (cands v))
 
   data Inv : Job → List Cand → Type 0 where
-    start : Inv (stage 0 own (replicate 4 zeros)) w
+    start : Inv (stage 0 own (replicate typesRoom zeros)) w
     choosing : (s t : ℕ) (best : List Cand) → s ≡ t + 1 → t < cnt → Choices t best → Inv (stage s n best) v₁
     putting : (s t len : ℕ) (best : List Cand) (v : List Cand) → s ≡ cnt + t + 1 → t ≤ cnt → Choices cnt best → Puts t len v → Inv (stage s len best) v
 
-  pin-begins : beginOf ts (stage 0 own (replicate 4 zeros)) ≡ pinPass (siteJob x k count at own)
+  pin-begins : beginOf ts (stage 0 own (replicate typesRoom zeros)) ≡ pinPass (siteJob x k count at own)
   unfolding beginOf
   pin-begins = refl
 
-  pin-ends : (e : Pass) (r : Job) → Ended ts (stage 0 own (replicate 4 zeros)) e r → r ≡ stage (0 + 1) (cond (isSink (x .kind)) 1 own) (replicate 4 zeros)
+  pin-ends : (e : Pass) (r : Job) → Ended ts (stage 0 own (replicate typesRoom zeros)) e r → r ≡ stage (0 + 1) (cond (isSink (x .kind)) 1 own) (replicate typesRoom zeros)
   unfolding Ended
   pin-ends e r h = h
 
@@ -163,12 +164,12 @@ module _ (ts : List ℕ) (count : ℕ) (T : Typed ts count) (x : Row) (k at own 
   inside j v (choosing s t best e h C) g = record { going = g; few = omega arith; types-few = omega (arith, cnt-few, T .few); types-long = T .long; number = number; room = omega (arith, S .place) }
   inside j _ (putting s t len best v e h C P) g = record { going = g; few = omega arith; types-few = omega (arith, cnt-few, T .few); types-long = T .long; number = number; room = omega (arith, S .place, P .few, cnt-few) }
 
-  choose-safe : (t : ℕ) → t < cnt → Safe (choicePass ts (stage (t + 1) n (replicate 4 zeros)) t) v₁
-  unfolding repeaterAt
-  choose-safe t h = let g = T .inside t (omega (arith, cnt-few)) in choices-safe (getD ts (3 * t + 2) 0) (record { 0 = getD ts (3 * t + 1) 0 }) (g .own) (g .resistance) v₁ (at + 0) n zeros (record { 0 = pos 0 }) (rw same₁ long) stand
+  choose-safe : (t : ℕ) → t < cnt → Safe (choicePass ts (stage (t + 1) n (replicate typesRoom zeros)) t) v₁
+  unfolding repeaterAt bufferAt bufferOf
+  choose-safe t h = let g = T .inside t (omega (arith, cnt-few)) in choices-safe (bufferAt ts t .own) (bufferAt ts t .resistance) (own-of _ (g .own)) (g .resistance) v₁ (at + 0) n zeros (record { 0 = pos 0 }) (rw same₁ long) stand
 
   abbrev delays : ℕ → ℕ → ℕ
-  delays t = delayOf (getD ts (3 * t + 2) 0) (getD ts (3 * t + 1) 0)
+  delays t = delayOf (repeaterAt ts t .own) (repeaterAt ts t .resistance)
 
   abbrev best-of : ℕ → Candidate
   best-of t = best (delays t) (getD (cands v₁) (at + 0) blank) (part (at + 0 + 1) (at + 0 + n) (cands v₁))
@@ -177,8 +178,8 @@ module _ (ts : List ℕ) (count : ℕ) (T : Typed ts count) (x : Row) (k at own 
   cut = part-cons (at + 0) (at + 0 + n) (cands v₁) blank (omega (arith, S .some)) long₁
 
   chose : (t : ℕ) → t < cnt → (s : ℕ) (best : List Cand) (e : Pass) (u : List Cand) → Swept (choicePass ts (stage s n best) t) v₁ e u → (u ≡ v₁) × (candOf (e .held) ≡ best-of t) × (e .worth .0 ≡ value (delays t) (best-of t))
-  unfolding repeaterAt
-  chose t h s best e u q = let g = T .inside t (omega (arith, cnt-few)) in choices-swept (getD ts (3 * t + 2) 0) (record { 0 = getD ts (3 * t + 1) 0 }) (g .own) (g .resistance) v₁ (at + 0) n zeros (record { 0 = pos 0 }) (rw same₁ long) stand q
+  unfolding repeaterAt bufferAt bufferOf
+  chose t h s best e u q = let g = T .inside t (omega (arith, cnt-few)) in choices-swept (bufferAt ts t .own) (bufferAt ts t .resistance) (own-of _ (g .own)) (g .resistance) v₁ (at + 0) n zeros (record { 0 = pos 0 }) (rw same₁ long) stand q
 
   safe : (j : Job) (v : List Cand) → Inv j v → j .step < j .steps → Safe (beginOf ts j) v
   safe j v start g = rw pin-begins pin-safe
@@ -189,12 +190,12 @@ module _ (ts : List ℕ) (count : ℕ) (T : Typed ts count) (x : Row) (k at own 
   put-in s t len best v e h P p u q = inserts-swept v (at + 0) len (getD best t unset) (record { 0 = pos 0 }) (omega (arith, S .place, P .few, cnt-few)) (rw (P .same) long) (rw (insert-begins s t len best e h) at q)
 
   ends : (j : Job) (v : List Cand) → Inv j v → j .step < j .steps → (e : Pass) (u : List Cand) → Swept (beginOf ts j) v e u → Ends j e
-  ends j v start g e u q = record { kept = λ a b. absurd (omega arith); behind = λ a b. absurd (omega arith) }
-  ends j v (choosing s t best z h C) g e u q = record { kept = λ a b. absurd (omega arith); behind = λ a b. absurd (omega arith) }
-  ends j _ (putting s t len best v z h C P) g e u q = record { kept = λ a b. put-in s t len best v z (going s t z g) P e u q .0; behind = λ a b. absurd (omega arith) }
+  ends j v start g e u q = record { kept = λ a b. absurd (omega arith); past = λ a b. absurd (omega arith) }
+  ends j v (choosing s t best z h C) g e u q = record { kept = λ a b. absurd (omega arith); past = λ a b. absurd (omega arith) }
+  ends j _ (putting s t len best v z h C P) g e u q = record { kept = λ a b. put-in s t len best v z (going s t z g) P e u q .0; past = λ a b. absurd (omega arith) }
 
   step : (j : Job) (v : List Cand) → Inv j v → j .step < j .steps → (e : Pass) (u : List Cand) (r : Job) → Swept (beginOf ts j) v e u → Ended ts j e r → Inv r u
-  step j v start g e u r q d = rw (pin-ends e r d, pinned e u (rw pin-begins at q), own-is) (chosen-to (0 + 1) 0 (replicate 4 zeros) (omega arith) (omega arith) (record { four = refl; made = λ i h. absurd (omega arith) }))
+  step j v start g e u r q d = rw (pin-ends e r d, pinned e u (rw pin-begins at q), own-is) (chosen-to (0 + 1) 0 (replicate typesRoom zeros) (omega arith) (omega arith) (record { four = refl; made = λ i h. absurd (omega arith) }))
   step j v (choosing s t best z h C) g e u r q d = rw (a .2, b .0) (chosen-to (s + 1) (t + 1) (set best t (a .0)) (omega arith) (omega arith) (record { four = length-set best t (a .0) ∙ C .four; made = λ i f. made i f (decLt i t) }))
     where
       a : Chosen ts (stage s n best) e t r
@@ -203,10 +204,10 @@ module _ (ts : List ℕ) (count : ℕ) (T : Typed ts count) (x : Row) (k at own 
       b : (u ≡ v₁) × (candOf (e .held) ≡ best-of t) × (e .worth .0 ≡ value (delays t) (best-of t))
       b = chose t h s best e u (rw (choice-begins s t best z h) at q)
 
-      new : candOf (a .0) ≡ chosenBy (repeaterAt ts t) (mark k (t + 1)) l
-      new = a .1 ∙ chosen-is ts t k (getD (cands v₁) (at + 0) blank) (part (at + 0 + 1) (at + 0 + n) (cands v₁)) e (b .1) (b .2) ∙ ap (chosenBy (repeaterAt ts t) (mark k (t + 1))) (sym cut)
+      new : candOf (a .0) ≡ chosenBy (repeaterAt ts t) (withMark k (t + 1)) l
+      new = a .1 ∙ chosen-is ts t k (getD (cands v₁) (at + 0) blank) (part (at + 0 + 1) (at + 0 + n) (cands v₁)) e (b .1) (b .2) ∙ ap (chosenBy (repeaterAt ts t) (withMark k (t + 1))) (sym cut)
 
-      made : (i : ℕ) → i < t + 1 → Dec (i < t) → candOf (getD (set best t (a .0)) i unset) ≡ chosenBy (repeaterAt ts i) (mark k (i + 1)) l
+      made : (i : ℕ) → i < t + 1 → Dec (i < t) → candOf (getD (set best t (a .0)) i unset) ≡ chosenBy (repeaterAt ts i) (withMark k (i + 1)) l
       made i f (yes y) = ap candOf (getD-set-other best t i (a .0) unset (λ q. omega (arith, q, y))) ∙ C .made i y
       made i f (no y) = let z : i ≡ t = omega (arith, y) in rw (z, getD-set-same best t (a .0) unset (rw (C .four) (omega (arith, cnt-few, T .few)))) new
   step j _ (putting s t len best v z h C P) g e u r q d =
@@ -225,7 +226,7 @@ module _ (ts : List ℕ) (count : ℕ) (T : Typed ts count) (x : Row) (k at own 
   pub site-able : Able ts (siteJob x k count at own) w
   site-able = kept-able ts Inv inside safe ends step (siteJob x k count at own) w start
 
-  list-is : (b : Bool) → siteStep (repeatersFrom ts 0 count) (mark k) (cond b count 0) l ≡ siteList (repeatersFrom ts 0 count) b k l
+  list-is : (b : Bool) → siteStep (repeatersFrom ts 0 count) (withMark k) (cond b count 0) l ≡ siteList (repeatersFrom ts 0 count) b k l
   unfolding siteList siteStep
   list-is true = rw (repeaters-length ts 0 count)
   list-is false = refl

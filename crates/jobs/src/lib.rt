@@ -3,6 +3,7 @@
 use rules::Cand;
 use stages::Job;
 ghost use Prim.Native.Nat.{_≤_};
+ghost use Rattle.rules.specs.Quantities.{typesRoom};
 ghost use Rattle.jobs.specs.Jobs.{Able, Worked, RowIn, siteAt, hangAt};
 
 pub mod making;
@@ -33,7 +34,7 @@ pub fn site(
     at: usize,
     under: usize,
 ) -> usize
-    requires { ⌜ RowIn (now rows) (now due) (now links) c × ((count ≤ 4) × Able (now types) (siteAt (now rows) (now due) (now links) count c at under) (now run)) ⌝ }
+    requires { ⌜ RowIn (now rows) (now due) (now links) c × ((count ≤ typesRoom) × Able (now types) (siteAt (now rows) (now due) (now links) count c at under) (now run)) ⌝ }
     ensures { λ r. ⌜ Worked (now (types .entry)) (siteAt (now (rows .entry)) (now (due .entry)) (now (links .entry)) count c at under) (now (run .entry)) (now (run .exit)) r ⌝ }
 {
     let job = making::site_job(rows, due, links, count, c, at, under);

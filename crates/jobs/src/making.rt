@@ -1,10 +1,12 @@
 // The jobs of a row.
+use rooms::TYPES_ROOM;
 use rules::Cand;
 use rules::Kind;
 use stages::Job;
 ghost use mathlib.Core.Path.{_≡_};
 ghost use mathlib.Core.Bool.{cond};
 ghost use Prim.Native.Nat.{_≤_};
+ghost use Rattle.rules.specs.Quantities.{typesRoom};
 ghost use Rattle.jobs.specs.Jobs.{RowIn, pinOf, siteAt, hangAt};
 
 fn pin_of(kind: Kind) -> Cand
@@ -41,7 +43,7 @@ pub fn site_job(
     at: usize,
     own: usize,
 ) -> Job
-    requires { ⌜ RowIn (now rows) (now due) (now links) c × (count ≤ 4) ⌝ }
+    requires { ⌜ RowIn (now rows) (now due) (now links) c × (count ≤ typesRoom) ⌝ }
     ensures { λ r. ⌜ r ≡ siteAt (now (rows .entry)) (now (due .entry)) (now (links .entry)) count c at own ⌝ }
 {
     let x = rows::row_at(rows, due, c);
@@ -66,7 +68,7 @@ pub fn site_job(
         pin: pin,
         resistance: r,
         capacitance: cap,
-        best: [none; 4],
+        best: [none; TYPES_ROOM],
     }
 }
 
@@ -106,6 +108,6 @@ pub fn hang_job(
         pin: none,
         resistance: r,
         capacitance: cap,
-        best: [none; 4],
+        best: [none; TYPES_ROOM],
     }
 }

@@ -1,4 +1,6 @@
 // What a row is by its numbers: a driver, a plain point or a sink, and how it moves the number of the next site on.
+use rooms::words::DRIVER;
+use rooms::words::POINT;
 use rules::Femtofarad;
 use rules::Femtosecond;
 use rules::Kind;
@@ -10,14 +12,14 @@ ghost use Rattle.rules.specs.Quantities.{rowsRoom};
 ghost use Rattle.rules.specs.Refusals.{isSink};
 ghost use Rattle.laws.specs.Tabled.{kindOf};
 
-// 0 is a driver, 1 a plain point, anything else a sink.
+// Neither a driver's nor a plain point's number is a sink's.
 pub fn kind_of(kind: u32, pin: u32, due: i64) -> Kind
     ensures { λ r. ⌜ r ≡ kindOf kind pin due ⌝ }
 {
-    if kind == 0 {
+    if kind == DRIVER {
         return Kind::Driver;
     }
-    if kind == 1 {
+    if kind == POINT {
         return Kind::Point;
     }
     Kind::Sink(Pin {
@@ -36,7 +38,7 @@ pub fn is_sink(kind: Kind) -> bool
     }
 }
 
-// The number of the next site, behind a row that has one or none.
+// The number of the next site, after a row that has one or none.
 pub fn next_site(site: bool, k: usize) -> usize
     requires { ⌜ k ≤ rowsRoom ⌝ }
     ensures { λ r. ⌜ r ≡ k + siteCount site ⌝ }

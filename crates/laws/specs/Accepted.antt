@@ -49,10 +49,10 @@ unfolding sitesOf
 sitesOf-snoc [] x = refl
 sitesOf-snoc (y ∷ rows) x = omega (arith, sitesOf-snoc rows x)
 
-sites-more : (rows : List Row) (x : Row) → (T (x .site) → sitesOf rows < 64) → sitesOf rows ≤ 64 → sitesOf (rows ++ (x ∷ [])) ≤ 64
+sites-more : (rows : List Row) (x : Row) → (T (x .site) → sitesOf rows < sitesRoom) → sitesOf rows ≤ sitesRoom → sitesOf (rows ++ (x ∷ [])) ≤ sitesRoom
 sites-more rows x h k = rw sitesOf-snoc (go (x .site) h)
   where
-    go : (b : Bool) → (T b → sitesOf rows < 64) → siteCount b + sitesOf rows ≤ 64
+    go : (b : Bool) → (T b → sitesOf rows < sitesRoom) → siteCount b + sitesOf rows ≤ sitesRoom
     go true h = omega (arith, h tt)
     go false h = omega arith
 
@@ -104,12 +104,12 @@ First [] = Unit {0}
 First (x ∷ rows) = (x ≡ driverRow (x .resistance .0)) × Earlier 1 rows
 
 record Known (types : List Repeater) (rows : List Row) : Type 0 where
-  types-few : length types ≤ 4
+  types-few : length types ≤ typesRoom
   types-in : All RepeaterInRange types
   first : First rows
-  rows-few : length rows ≤ 256
+  rows-few : length rows ≤ rowsRoom
   rows-in : All RowIn rows
-  sites-few : sitesOf rows ≤ 64
+  sites-few : sitesOf rows ≤ sitesRoom
   bare : Bare 0 rows
 
 known : {types : List Repeater} {rows : List Row} → Taken types rows → Known types rows

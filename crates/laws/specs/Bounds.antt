@@ -14,7 +14,7 @@ use Rattle.laws.specs.Candidates.{Cand, Front, Stand, covers, covered, b
 use Rattle.laws.specs.Thinning.{climbed, climb-length}
 use Rattle.laws.specs.Steps.{Joins, merge, merge-length, front-merge}
 use Rattle.laws.specs.Moves.{behind, wireStep, typeStep, siteStep}
-use Rattle.laws.specs.Joining.{join, set}
+use Rattle.laws.specs.Joining.{joinMarks, withMark}
 use Rattle.laws.specs.Method.{Proper, Reaches, frontOf, method}
 
 module _ {W : Type 0} where
@@ -23,8 +23,8 @@ module _ {W : Type 0} where
   front-length l m F G = sym (length-map l pair) ∙ ap length (front-unique F G) ∙ length-map m pair
 
   -- a branch's list holds at most the two lengths less one, whatever the lengths
-  pub branch-length : {R S : Cand W → Type 0} (join : W → W → W) (l m k : List (Cand W)) → Front R l → Front S m → Front (Joins join R S) k → length k ≤ pred (length l + length m)
-  branch-length join l m k F G H = rw (front-length k (merge join l m) H (front-merge join F G)) (merge-length join l m)
+  pub branch-length : {R S : Cand W → Type 0} (joinMarks : W → W → W) (l m k : List (Cand W)) → Front R l → Front S m → Front (Joins joinMarks R S) k → length k ≤ pred (length l + length m)
+  branch-length joinMarks l m k F G H = rw (front-length k (merge joinMarks l m) H (front-merge joinMarks F G)) (merge-length joinMarks l m)
 
   thinIn-length : (c : Cand W) (l : List (Cand W)) → length (thinIn c l) ≤ suc (length l)
   unfolding thinIn put
@@ -52,9 +52,9 @@ module _ (types : List Repeater) where
   frontOf-length : (t : Tree) → length (frontOf types t) ≤ 1 + length types * sitesOn t
   unfolding frontOf sitesOn
   frontOf-length (sink pin due) = omega arith
-  frontOf-length (site k t) = omega (arith, siteStep-length types (set k) (length types) (frontOf types t), frontOf-length t)
+  frontOf-length (site k t) = omega (arith, siteStep-length types (withMark k) (length types) (frontOf types t), frontOf-length t)
   frontOf-length (wire w t) = omega (arith, wireStep-length w (frontOf types t), frontOf-length t)
-  frontOf-length (both s t) = omega (arith, merge-length join (frontOf types s) (frontOf types t), frontOf-length s, frontOf-length t)
+  frontOf-length (both s t) = omega (arith, merge-length joinMarks (frontOf types s) (frontOf types t), frontOf-length s, frontOf-length t)
 
   -- the list at any place of a net
   pub reached-length : (t : Tree) (l : List (Cand Placement)) → Proper t → Front (Reaches types t) l → length l ≤ 1 + length types * sitesOn t

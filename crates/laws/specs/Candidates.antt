@@ -8,8 +8,8 @@ use native.Mathlib.Decide.{decLe, ℕ-discrete}
 use lib.IntN.{ℤ, ℤ-discrete}
 use lib.Signed.{_≤ℤ_, _<ℤ_}
 use Rattle.laws.specs.Integers.{times, ≤-or-<}
-use Rattle.rules.specs.Lists.{All, Any, Pairwise, nil, cons, here, there}
-use Rattle.laws.specs.Lists.{Met, same, first, second, all-imp, any-imp, any-all, all-self, met, all-with, any-with}
+use Rattle.rules.specs.Lists.{All, Any, nil, cons, here, there}
+use Rattle.laws.specs.Lists.{Met, same, first, second, all-imp, any-imp, any-all, all-self, met, all-with, any-with, EveryTwo, ends, leads}
 
 pub record Cand (W : Type 0) : Type 0 where
   pub load : ℕ
@@ -58,11 +58,11 @@ module _ {W : Type 0} where
     above : Below b a → Stand a b
 
   unfoldable pub standBy : (a b : Cand W) → Dec (a .load ≤ b .load) → Dec (b .load ≤ a .load) → (b .time ≤ℤ a .time) ⊎ (a .time <ℤ b .time) → (a .time ≤ℤ b .time) ⊎ (b .time <ℤ a .time) → Stand a b
-  standBy a b (yes l) r (inl t) s = covers (omega times)
-  standBy a b (yes l) (yes r) (inr t) s = covered (omega times)
-  standBy a b (yes l) (no r) (inr t) s = below (omega times)
-  standBy a b (no l) r t (inl s) = covered (omega times)
-  standBy a b (no l) r t (inr s) = above (omega times)
+  standBy a b l (yes r) t (inl s) = covered (omega times)
+  standBy a b (yes l) (yes r) t (inr s) = covers (omega times)
+  standBy a b (no l) (yes r) t (inr s) = above (omega times)
+  standBy a b l (no r) (inl t) s = covers (omega times)
+  standBy a b l (no r) (inr t) s = below (omega times)
 
   unfoldable pub stand : (a b : Cand W) → Stand a b
   stand a b = standBy a b (decLe (a .load) (b .load)) (decLe (b .load) (a .load)) (≤-or-< (b .time) (a .time)) (≤-or-< (a .time) (b .time))
@@ -73,7 +73,7 @@ module _ {W : Type 0} where
 
   -- l is the unbeaten candidates of R, loads and times rising
   pub record Front (R : Cand W → Type 0) (l : List (Cand W)) : Type 0 where
-    pub rising : Pairwise Below l
+    pub rising : EveryTwo Below l
     pub sound : All R l
     pub whole : (c : Cand W) → R c → Covered l c
 
@@ -99,16 +99,16 @@ module _ {W : Type 0} where
       go (below k) a = cons q (cons h t)
       go (above k) a = cons h a
 
-  thinIn-rising : (c : Cand W) {l : List (Cand W)} → Pairwise Below l → Pairwise Below (thinIn c l)
+  thinIn-rising : (c : Cand W) {l : List (Cand W)} → EveryTwo Below l → EveryTwo Below (thinIn c l)
   unfolding thinIn put
-  thinIn-rising c nil = cons nil nil
-  thinIn-rising c (cons {x = x} {xs = xs} h t) = go (stand c x) (thinIn-rising c t) (λ b. thinIn-all c b h)
+  thinIn-rising c ends = leads nil ends
+  thinIn-rising c (leads {x = x} {xs = xs} h t) = go (stand c x) (thinIn-rising c t) (λ b. thinIn-all c b h)
     where
-      go : (s : Stand c x) {r : List (Cand W)} → Pairwise Below r → (Below x c → All (Below x) r) → Pairwise Below (put c x xs r s)
+      go : (s : Stand c x) {r : List (Cand W)} → EveryTwo Below r → (Below x c → All (Below x) r) → EveryTwo Below (put c x xs r s)
       go (covers k) a b = a
-      go (covered k) a b = cons h t
-      go (below k) a b = cons (cons k (all-imp (λ y j. below-trans k j) h)) (cons h t)
-      go (above k) a b = cons (b k) a
+      go (covered k) a b = leads h t
+      go (below k) a b = leads (cons k (all-imp (λ y j. below-trans k j) h)) (leads h t)
+      go (above k) a b = leads (b k) a
 
   -- the new candidate is covered, and what was covered stays so
   thinIn-has : (c : Cand W) (l : List (Cand W)) → Covered (thinIn c l) c
@@ -179,11 +179,11 @@ module _ {W : Type 0} where
   tails k (cons b bs) (cons (here j) cs) = absurd (below-not b (covers-trans k j))
   tails k (cons b bs) (cons (there j) cs) = cons j (tails k bs cs)
 
-  unique : {l m : List (Cand W)} → Pairwise Below l → Pairwise Below m → Over m l → Over l m → map pair l ≡ map pair m
-  unique nil nil o p = refl
-  unique nil (cons b bs) o (cons d p) = absurd (elim d [ ])
-  unique (cons a at) nil (cons c o) p = absurd (elim c [ ])
-  unique (cons a at) (cons b bt) (cons c o) (cons d p) =
+  unique : {l m : List (Cand W)} → EveryTwo Below l → EveryTwo Below m → Over m l → Over l m → map pair l ≡ map pair m
+  unique ends ends o p = refl
+  unique ends (leads b bs) o (cons d p) = absurd (elim d [ ])
+  unique (leads a at) ends (cons c o) p = absurd (elim c [ ])
+  unique (leads a at) (leads b bt) (cons c o) (cons d p) =
       let k = heads a b c d in
       let j = heads b a d c in
       ap₂ _∷_ (same-pair (covers-antisym j k)) (unique at bt (tails j a o) (tails k b p))
@@ -192,7 +192,7 @@ module _ {W : Type 0} where
   pub front-unique : {R : Cand W → Type 0} {l m : List (Cand W)} → Front R l → Front R m → map pair l ≡ map pair m
   front-unique f g = unique (f .rising) (g .rising) (all-imp (g .whole) (f .sound)) (all-imp (f .whole) (g .sound))
 
-  dec-same : (a b : Cand W) → Dec (Same a b)
+  pub dec-same : (a b : Cand W) → Dec (Same a b)
   dec-same a b = go (ℕ-discrete (a .load) (b .load)) (ℤ-discrete (a .time) (b .time))
     where
       go : Dec (a .load ≡ b .load) → Dec (a .time ≡ b .time) → Dec (Same a b)
@@ -210,7 +210,7 @@ module _ {W : Type 0} where
     pub unbeaten : (d : Cand W) → R d → ¬ (Beats d c)
 
   -- a member that covers a member is it
-  alone : {l : List (Cand W)} {m d : Cand W} → Pairwise Below l → Any (λ x. x ≡ m) l → Covered l d → Covers d m → Same d m
+  alone : {l : List (Cand W)} {m d : Cand W} → EveryTwo Below l → Any (λ x. x ≡ m) l → Covered l d → Covers d m → Same d m
   alone {l} {m} {d} r a b k = go (met r a b)
     where
       go : Met Below (λ x. x ≡ m) (λ x. Covers x d) → Same d m

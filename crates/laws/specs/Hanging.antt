@@ -3,7 +3,7 @@ use mathlib.Core.Path.{_≡_, refl, sym, _∙_}
 use mathlib.Core.Bool.{Bool, true, false, cond}
 use mathlib.Core.List.{List, [], _∷_}
 use mathlib.Core.Logic.{_≢_, _⊎_, inl, inr, ⊎-elim}
-use mathlib.Core.Option.{Option, none, some}
+use mathlib.Core.Option.{Option, none, some, Option·some-ne-none}
 use Prim.Native.Nat.{ℕ, zero, suc, _+_, _≤_, _<_}
 use native.Mathlib.Omega.{arith}
 use lib.Dec.{T, eqb, eqb→eq}
@@ -62,7 +62,7 @@ at-is d i k (suc j) (x ∷ rows) h =
     let w : suc j + 1 ≡ suc (j + 1) = omega arith in
     at-later i k x rows (i + suc j) (omega arith) ∙ rw (z, y, w) (at-is d (i + 1) (k + siteCount (x .site)) j rows (omega arith))
 
--- what is at row r: the row, its site numbered behind those before it, over what hangs under it
+-- what is at row r: the row, its site numbered after those before it, over what hangs under it
 pub atRow-is : (d : Row) (rows : List Row) (r : ℕ) → r < length rows
     → atRow rows r ≡ seen (getD rows r d .site) (getD rows r d .kind) (sitesOf (take r rows)) (hangs (r + 1) (sitesOf (take r rows) + siteCount (getD rows r d .site)) (drop (r + 1) rows) r)
 unfolding atRow
@@ -70,6 +70,20 @@ atRow-is d rows r h =
     let z : 0 + r ≡ r = omega arith in
     let y : 0 + sitesOf (take r rows) ≡ sitesOf (take r rows) = omega arith in
     rw (z, y) at (at-is d 0 0 r rows h)
+
+-- a row at which there is a tree is one of the net's
+at-from : (i k : ℕ) (rows : List Row) (r : ℕ) (t : Tree) → at i k rows r ≡ some t → r < i + length rows
+unfolding at
+at-from i k [] r t e = absurd (Option·some-ne-none t (sym e))
+at-from i k (x ∷ rows) r t e = go (eqb i r) (eqb→eq i r) (at-from (i + 1) (k + siteCount (x .site)) rows r t) e
+  where
+    go : (b : Bool) → (T b → i ≡ r) → (at (i + 1) (k + siteCount (x .site)) rows r ≡ some t → r < i + 1 + length rows) → cond b (seen (x .site) (x .kind) k (hangs (i + 1) (k + siteCount (x .site)) rows i)) (at (i + 1) (k + siteCount (x .site)) rows r) ≡ some t → r < i + length (x ∷ rows)
+    go true s later h = omega (arith, s tt)
+    go false s later h = omega (arith, later h)
+
+pub at-counted : (rows : List Row) (r : ℕ) (t : Tree) → atRow rows r ≡ some t → r < length rows
+unfolding atRow
+at-counted rows r t e = omega (arith, at-from 0 0 rows r t e)
 
 -- ---- the sites
 -- of a tree that may not be there
@@ -174,11 +188,11 @@ unfolding hangs sitesOf
 hangs-parted i k [] = record { proper = λ r h. tt; from = λ r j h. absurd h; upTo = λ r j h. absurd h; apart = λ r q j a b c h. absurd h }
 hangs-parted i k (x ∷ rows) = parted-step i k (sitesOf rows) x (hangs (i + 1) (k + siteCount (x .site)) rows) (hangs-parted (i + 1) (k + siteCount (x .site)) rows)
 
--- what is seen of a row, over what hangs under it among the rows behind it, has no site twice
+-- what is seen of a row, over what hangs under it among the rows after it, has no site twice
 pub seen-distinct : (i k : ℕ) (x : Row) (rows : List Row) → ProperIf (seen (x .site) (x .kind) k (hangs (i + 1) (k + siteCount (x .site)) rows i))
 seen-distinct i k x rows = seen-proper i k (sitesOf rows) x (hangs (i + 1) (k + siteCount (x .site)) rows) (hangs-parted (i + 1) (k + siteCount (x .site)) rows)
 
--- a row's own tree has no site in common with what hangs under an earlier row behind it
+-- a row's own tree has no site in common with what hangs under an earlier row after it
 pub hung-distinct : (i k : ℕ) (x : Row) (rows : List Row) (r j : ℕ) → r < i → OnIf (hung x k (hangs (i + 1) (k + siteCount (x .site)) rows i)) j → ¬ (OnIf (hangs (i + 1) (k + siteCount (x .site)) rows r) j)
 hung-distinct i k x rows r j = hung-apart i k (sitesOf rows) x (hangs (i + 1) (k + siteCount (x .site)) rows) (hangs-parted (i + 1) (k + siteCount (x .site)) rows) r j
 

@@ -103,9 +103,6 @@ unfoldable pub ≤-or-< : (a b : ℤ) → (a ≤ℤ b) ⊎ (b <ℤ a)
 pub ⊖-mono : {t s : ℤ} {d e : ℕ} → t ≤ℤ s → e ≤ d → t ⊖ d ≤ℤ s ⊖ e
 ⊖-mono {t} {s} {d} {e} h k = omega (times, ⊖-read t d, ⊖-read s e)
 
-pub ⊖-strict : {t s : ℤ} (d : ℕ) → t <ℤ s → t ⊖ d <ℤ s ⊖ d
-⊖-strict {t} {s} d h = omega (times, ⊖-read t d, ⊖-read s d)
-
 pub ⊖-⊖ : (t : ℤ) (a b : ℕ) → t ⊖ a ⊖ b ≡ t ⊖ (a + b)
 ⊖-⊖ t a b = omega (times, ⊖-read t a, ⊖-read (t ⊖ a) b, ⊖-read t (a + b))
 
@@ -157,6 +154,21 @@ min-above {a} {b} {m} h k = ⊎-elim (λ e. rw e h) (λ e. rw e k) (min-lesser a
 
 pub min-mono : {a b c d : ℤ} → a ≤ℤ c → b ≤ℤ d → minℤ a b ≤ℤ minℤ c d
 min-mono {a} {b} h k = min-greatest (≤-trans (min-lesser a b .left) h) (≤-trans (min-lesser a b .right) k)
+
+-- neither the order nor the grouping shows
+pub min-swap : (a b : ℤ) → minℤ a b ≡ minℤ b a
+min-swap a b =
+    let l = min-lesser a b in
+    let r = min-lesser b a in
+    ≤-antisym (min-greatest (l .right) (l .left)) (min-greatest (r .right) (r .left))
+
+pub min-turn : (a b c : ℤ) → minℤ (minℤ a b) c ≡ minℤ a (minℤ b c)
+min-turn a b c =
+    let ab = min-lesser a b in
+    let x = min-lesser (minℤ a b) c in
+    let bc = min-lesser b c in
+    let y = min-lesser a (minℤ b c) in
+    ≤-antisym (min-greatest (≤-trans (x .left) (ab .left)) (min-greatest (≤-trans (x .left) (ab .right)) (x .right))) (min-greatest (min-greatest (y .left) (≤-trans (y .right) (bc .left))) (≤-trans (y .right) (bc .right)))
 
 -- how two times stand
 pub data Order (a b : ℤ) : Type 0 where

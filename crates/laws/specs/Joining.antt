@@ -23,28 +23,28 @@ keep-no (yes h) a b x = absurd (x h)
 keep-no (no h) a b x = refl
 
 -- marks are joined by the same or as words, so that words stand for placements with no side condition
-unfoldable pub join : Placement → Placement → Placement
-join p q = λ j. bitOr (p j) (q j)
+unfoldable pub joinMarks : Placement → Placement → Placement
+joinMarks p q = λ j. bitOr (p j) (q j)
 
-pub join-left : (p q : Placement) (j : ℕ) → q j ≡ 0 → join p q j ≡ p j
-unfolding join
+pub join-left : (p q : Placement) (j : ℕ) → q j ≡ 0 → joinMarks p q j ≡ p j
+unfolding joinMarks
 join-left p q j e = rw (e, or-zero-r)
 
-pub join-right : (p q : Placement) (j : ℕ) → p j ≡ 0 → join p q j ≡ q j
-unfolding join
+pub join-right : (p q : Placement) (j : ℕ) → p j ≡ 0 → joinMarks p q j ≡ q j
+unfolding joinMarks
 join-right p q j e = rw (e, or-zero-l)
 
 -- the mark of site k becomes m
-unfoldable pub set : (k m : ℕ) → Placement → Placement
-set k m p = λ j. keep (ℕ-discrete j k) m (p j)
+unfoldable pub withMark : (k m : ℕ) → Placement → Placement
+withMark k m p = λ j. keep (ℕ-discrete j k) m (p j)
 
-pub set-here : (k m : ℕ) (p : Placement) → set k m p k ≡ m
-unfolding set
-set-here k m p = keep-yes (ℕ-discrete k k) m (p k) refl
+pub with-mark-here : (k m : ℕ) (p : Placement) → withMark k m p k ≡ m
+unfolding withMark
+with-mark-here k m p = keep-yes (ℕ-discrete k k) m (p k) refl
 
-pub set-there : (k m : ℕ) (p : Placement) (j : ℕ) → ¬ (j ≡ k) → set k m p j ≡ p j
-unfolding set
-set-there k m p j h = keep-no (ℕ-discrete j k) m (p j) h
+pub with-mark-there : (k m : ℕ) (p : Placement) (j : ℕ) → ¬ (j ≡ k) → withMark k m p j ≡ p j
+unfolding withMark
+with-mark-there k m p j h = keep-no (ℕ-discrete j k) m (p j) h
 
 -- ---- a tree's sites
 dec-or : {A B : Type 0} → Dec A → Dec B → Dec (A ⊎ B)

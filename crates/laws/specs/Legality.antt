@@ -9,7 +9,7 @@ use native.Mathlib.Nat.{zero-div}
 use native.Mathlib.Decide.{ℕ-discrete, decLt}
 use lib.Dec.{ltb, lt→ltb, nltb→le}
 use lib.ListN.{length, length-take, getD, take, List·getD-eq-default}
-use Rattle.rules.specs.Quantities.{sitesRoom}
+use Rattle.rules.specs.Quantities.{sitesRoom, placementRoom}
 use Rattle.rules.specs.Entries.{Entry, typesOf, rowsOf, sitesOf}
 use Rattle.rules.specs.Placements.{Placement, markIn, marks, markRefusal, marksFrom, placementRefusal}
 use Rattle.rules.specs.Net.{Tree, atRow}
@@ -61,18 +61,18 @@ module _ (es : List Entry) (p : Placement) where
   -- a placement with no mark from site 64 on is legal at the driver when it is not refused, and only then
   pub legality : Accepted (typesOf es) (rowsOf es) → (t : Tree) → atRow (rowsOf es) 0 ≡ some t → ((j : ℕ) → sitesRoom ≤ j → p j ≡ 0) → (placementRefusal es p ≡ none) ↔ Legal (typesOf es) t p
   unfolding placementRefusal
-  legality ok t e past = (λ h. record { known = λ j. known h j (decLt j 64); only = λ j o. only h j o (decLt j 64) }, λ l. ok-marks (marked l) 0 64)
+  legality ok t e past = (λ h. record { known = λ j. known h j (decLt j sitesRoom); only = λ j o. only h j o (decLt j sitesRoom) }, λ l. ok-marks (marked l) 0 sitesRoom)
     where
-      known : marksFrom es p 0 64 ≡ none → (j : ℕ) → Dec (j < 64) → p j ≤ length (typesOf es)
-      known h j (yes a) = go (marks-ok 0 64 h j (omega arith) (omega arith)) (decLt j (sitesOf (rowsOf es)))
+      known : marksFrom es p 0 sitesRoom ≡ none → (j : ℕ) → Dec (j < sitesRoom) → p j ≤ length (typesOf es)
+      known h j (yes a) = go (marks-ok 0 sitesRoom h j (omega arith) (omega arith)) (decLt j (sitesOf (rowsOf es)))
         where
           go : MarkOk j → Dec (j < sitesOf (rowsOf es)) → p j ≤ length (typesOf es)
           go m (yes b) = m .known b
           go m (no b) = omega (arith, m .past (omega arith))
       known h j (no a) = omega (arith, past j (omega arith))
 
-      only : marksFrom es p 0 64 ≡ none → (j : ℕ) → ¬ (On t j) → Dec (j < 64) → p j ≡ 0
-      only h j o (yes a) = marks-ok 0 64 h j (omega arith) (omega arith) .past (off j o)
+      only : marksFrom es p 0 sitesRoom ≡ none → (j : ℕ) → ¬ (On t j) → Dec (j < sitesRoom) → p j ≡ 0
+      only h j o (yes a) = marks-ok 0 sitesRoom h j (omega arith) (omega arith) .past (off j o)
         where
           off : (j : ℕ) → ¬ (On t j) → sitesOf (rowsOf es) ≤ j
           off j o = go (decLt j (sitesOf (rowsOf es)))
@@ -89,7 +89,7 @@ module _ (es : List Entry) (p : Placement) where
 pub marks-past : (words : List ℕ) (j : ℕ) → sitesRoom ≤ j → marks words j ≡ 0
 unfolding marks markIn
 marks-past words j h =
-    let e : getD (take 4 words) (j / 16) 0 ≡ 0 = List·getD-eq-default (take 4 words) 0 (omega (arith, length-take 4 words)) in
+    let e : getD (take placementRoom words) (j / 16) 0 ≡ 0 = List·getD-eq-default (take placementRoom words) 0 (omega (arith, length-take placementRoom words)) in
     rw (e, zero-div)
 
 -- the placement that four words stand for is legal at the driver when it is not refused, and only then

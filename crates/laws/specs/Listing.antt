@@ -4,16 +4,19 @@ use mathlib.Core.Path.{_≡_, refl, sym, ap, subst, _∙_}
 use mathlib.Core.List.{List, [], _∷_, map}
 use mathlib.Core.Logic.{⊎-elim, _↔_}
 use Prim.Native.Nat.{ℕ, _+_, _*_, _≤_}
+use native.Mathlib.Bridge.{le-prop}
 use native.Mathlib.Nat.{le-refl}
+use lib.Dec.{T-prop}
 use lib.IntN.{ℤ}
 use lib.ListN.{length, length-map}
-use Rattle.rules.specs.Lists.{All, Any, Pairwise, Least, nil, cons, here, there}
+use lib.Signed.{ltZ}
+use Rattle.rules.specs.Lists.{All, Any, Least, nil, cons, here, there}
 use Rattle.rules.specs.Entries.{Repeater}
 use Rattle.rules.specs.Placements.{Placement}
 use Rattle.rules.specs.Net.{Tree}
 use Rattle.rules.specs.Pairs.{Pair, NoWorse, Beats, Unbeaten, Reached, sitesOn}
 use Rattle.rules.specs.Pairs.{Below as PairBelow}
-use Rattle.laws.specs.Lists.{all-head, all-tail, all-map, any-map, any-all, all-self, any-imp}
+use Rattle.laws.specs.Lists.{all-head, all-tail, all-map, any-map, any-all, all-self, any-imp, EveryTwo, ends, leads, two-pairwise, pairwise-two}
 use Rattle.laws.specs.Candidates.{Cand, Same, Front, pair, front-unique, front-unbeaten, unbeaten-front}
 use Rattle.laws.specs.Candidates.{Beats as CandBeats}
 use Rattle.laws.specs.Candidates.{Unbeaten as CandUnbeaten}
@@ -31,15 +34,19 @@ pairOf c = record { load = c .load; time = c .time }
 unfoldable pub lone : Pair → Cand (Unit {0})
 lone c = record { load = c .load; time = c .time; place = tt }
 
-pairwise-map : {A B : Type 0} {R : A → A → Type 0} {S : B → B → Type 0} (f : A → B) → ((x y : A) → R x y → S (f x) (f y)) → {l : List A} → Pairwise R l → Pairwise S (map f l)
-pairwise-map f g nil = nil
-pairwise-map f g (cons {x = x} h t) = cons (all-map f (g x) h) (pairwise-map f g t)
+two-map : {A B : Type 0} {R : A → A → Type 0} {S : B → B → Type 0} (f : A → B) → ((x y : A) → R x y → S (f x) (f y)) → {l : List A} → EveryTwo R l → EveryTwo S (map f l)
+two-map f g ends = ends
+two-map f g (leads {x = x} h t) = leads (all-map f (g x) h) (two-map f g t)
+
+-- one pair is below another in one way
+below-once : (a b : Pair) → IsProp (PairBelow a b)
+below-once a b x y = λ i. record { load = le-prop (x .load) (y .load) i; time = record { lt = T-prop (ltZ (a .time) (b .time)) (x .time .lt) (y .time .lt) i } }
 
 -- the pairs of a front of Q are the unbeaten pairs of R, where R is the pairs of Q's candidates
 pub pairs-front : {W : Type 0} {Q : Cand W → Type 0} {R : Pair → Type 0} {l : List (Cand W)} → ((c : Cand W) → Q c → R (pairOf c)) → ((c : Pair) → R c → (d : Cand W) × Q d × (pairOf d ≡ c)) → Front Q l → Unbeaten R (map pairOf l)
 unfolding pairOf
 pairs-front {R = R} {l} up down F = record {
-  rising = pairwise-map pairOf (λ a b h. record { load = h .light; time = h .early }) (F .rising);
+  rising = two-pairwise below-once (two-map pairOf (λ a b h. record { load = h .light; time = h .early }) (F .rising));
   reached = all-map pairOf up (F .sound);
   whole = λ c r. let (d, q, e) = down c r in subst (λ (c : Pair). Any (λ m. NoWorse m c) (map pairOf l)) e (any-map pairOf (λ m k. record { load = k .light; time = k .late }) (F .whole d q));
 }
@@ -90,7 +97,7 @@ module _ {R : Pair → Type 0} where
   front-lone : {l : List Pair} → Unbeaten R l → Front (λ c. R (pairOf c)) (map lone l)
   unfolding pairOf lone
   front-lone {l} u = record {
-    rising = pairwise-map lone (λ a b h. record { light = h .load; early = h .time }) (u .rising);
+    rising = two-map lone (λ a b h. record { light = h .load; early = h .time }) (pairwise-two (u .rising));
     sound = all-map lone (λ c r. r) (u .reached);
     whole = λ c r. any-map lone (λ m k. record { light = k .load; late = k .time }) (u .whole (pairOf c) r);
   }
@@ -143,8 +150,8 @@ no-worse : {a b : Pair} → a ≡ b → NoWorse a b
 no-worse {a} {b} e = rw e (record { load = le-refl _; time = ≤-refl _ })
 
 -- a rising list is the unbeaten ones of its own pairs
-rising-unbeaten : {l : List Pair} → Pairwise PairBelow l → Unbeaten (λ c. Any (λ x. x ≡ c) l) l
-rising-unbeaten {l} r = record { rising = r; reached = all-self l; whole = λ c h. any-imp (λ m e. no-worse e) h }
+rising-unbeaten : {l : List Pair} → EveryTwo PairBelow l → Unbeaten (λ c. Any (λ x. x ≡ c) l) l
+rising-unbeaten {l} r = record { rising = two-pairwise below-once r; reached = all-self l; whole = λ c h. any-imp (λ m e. no-worse e) h }
 
 -- the branch's list
 unfoldable pub meeting : (l m : List Pair) → List Pair
@@ -154,7 +161,7 @@ lesser-least : {a b m : ℤ} → Lesser a b m → Least m (a ∷ b ∷ [])
 lesser-least h = record { below = cons (h .left) (cons (h .right) nil); among = ⊎-elim here (λ e. there (here e)) (h .one) }
 
 -- it is the unbeaten ones of all the pairs that meet
-pub meeting-unbeaten : {l m : List Pair} → Pairwise PairBelow l → Pairwise PairBelow m → Unbeaten (Meets l m) (meeting l m)
+pub meeting-unbeaten : {l m : List Pair} → EveryTwo PairBelow l → EveryTwo PairBelow m → Unbeaten (Meets l m) (meeting l m)
 unfolding meeting pairOf lone joined
 meeting-unbeaten {l} {m} r s = pairs-front up down (front-merge (λ a b. tt) (front-lone (rising-unbeaten r)) (front-lone (rising-unbeaten s)))
   where

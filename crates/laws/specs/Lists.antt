@@ -1,7 +1,31 @@
 -- Laws of every element, some element, and every two in their order. Assumes nothing.
-use mathlib.Core.Path.{_≡_, refl}
-use mathlib.Core.List.{List, [], _∷_, _++_, map}
-use Rattle.rules.specs.Lists.{All, Any, Pairwise, nil, cons, here, there}
+use mathlib.Core.Path.{_≡_, refl, sym, subst}
+use mathlib.Core.List.{List, [], _∷_, _++_, map, Pairwise, Pairwise·nil, Pairwise·cons, List·Mem, List·Memᴰ, List·Memᴰ·cases-cons, List·Memᴰ·not-nil, mem-cons-self, mem-cons-of-mem}
+use mathlib.Core.Logic.{⊎-elim, ∥∥₁-elim}
+use Rattle.rules.specs.Lists.{All, Any, nil, cons, here, there}
+
+-- R holds of each element and each later one: the library's `Pairwise`, told element by element and not by membership
+pub data EveryTwo {A : Type 0} (R : A → A → Type 0) : List A → Type 0 where
+  ends : EveryTwo R []
+  leads : {x : A} {xs : List A} → All (R x) xs → EveryTwo R xs → EveryTwo R (x ∷ xs)
+
+module _ {A : Type 0} where
+  all-member : {P : A → Type 0} {l : List A} {a : A} → All P l → List·Memᴰ a l → P a
+  all-member nil m = absurd (List·Memᴰ·not-nil m)
+  all-member {P} (cons p ps) m = ⊎-elim (λ e. subst P (sym e) p) (λ k. all-member ps k) (List·Memᴰ·cases-cons m)
+
+  members-all : {P : A → Type 0} (l : List A) → ((a : A) → List·Mem a l → P a) → All P l
+  members-all [] f = nil
+  members-all (x ∷ l) f = cons (f x mem-cons-self) (members-all l (λ a m. f a (mem-cons-of-mem x m)))
+
+  -- the two say the same, where R has at most one proof
+  pub two-pairwise : {R : A → A → Type 0} → ((a b : A) → IsProp (R a b)) → {l : List A} → EveryTwo R l → Pairwise R l
+  two-pairwise one ends = Pairwise·nil
+  two-pairwise one (leads {x = x} h t) = Pairwise·cons (λ a m. ∥∥₁-elim m (one x a) (all-member h)) (two-pairwise one t)
+
+  pub pairwise-two : {R : A → A → Type 0} {l : List A} → Pairwise R l → EveryTwo R l
+  pairwise-two Pairwise·nil = ends
+  pairwise-two (Pairwise·cons {l = l} h t) = leads (members-all l h) (pairwise-two t)
 
 module _ {A : Type 0} {P Q : A → Type 0} where
   pub all-imp : {l : List A} → ((x : A) → P x → Q x) → All P l → All Q l
@@ -74,8 +98,8 @@ module _ {A : Type 0} {R : A → A → Type 0} {P Q : A → Type 0} where
   met-second y q (cons {x = x} r t) (here p) = second x y r p q
   met-second y q (cons r t) (there p) = met-second y q t p
 
-  pub met : {l : List A} → Pairwise R l → Any P l → Any Q l → Met R P Q
-  met (cons {x = x} r t) (here p) (here q) = same x p q
-  met (cons {x = x} r t) (here p) (there q) = met-first x p r q
-  met (cons {x = x} r t) (there p) (here q) = met-second x q r p
-  met (cons r t) (there p) (there q) = met t p q
+  pub met : {l : List A} → EveryTwo R l → Any P l → Any Q l → Met R P Q
+  met (leads {x = x} r t) (here p) (here q) = same x p q
+  met (leads {x = x} r t) (here p) (there q) = met-first x p r q
+  met (leads {x = x} r t) (there p) (here q) = met-second x q r p
+  met (leads r t) (there p) (there q) = met t p q

@@ -15,15 +15,16 @@ use Rattle.rules.specs.Entries.{Repeater}
 use Rattle.rules.specs.Placements.{Placement}
 use Rattle.rules.specs.Net.{Wire, Tree, sink, site, wire, both}
 use Rattle.rules.specs.Slack.{seenLoad, repeaterDelay, wireDelay, IsSlack}
-use Rattle.rules.specs.Slack.{load as loadOf}
+use Rattle.rules.specs.Slack.{loadOf}
 use Rattle.rules.specs.Pairs.{On, Legal, Planned}
 use Rattle.laws.specs.Integers.{times, ⊖-zero, ≤-refl, minℤ}
+use Rattle.laws.specs.Lists.{ends, leads}
 use Rattle.laws.specs.Candidates.{Cand, Covers, Front, covers-refl, front-wider}
 use Rattle.laws.specs.Steps.{Image, value, best, Better, front-best, buffered, joined, Joins, merge, front-merge}
 use Rattle.laws.specs.Moves.{behind, wireStep, front-wireStep, typed, Typed, siteStep, front-siteStep}
 use Rattle.laws.specs.Trees.{least-unique, slack-is}
 use Rattle.laws.specs.Trees.{time as timeOf}
-use Rattle.laws.specs.Joining.{join, join-left, join-right, set, set-here, set-there, dec-on, cut, cut-on, cut-off}
+use Rattle.laws.specs.Joining.{joinMarks, join-left, join-right, withMark, with-mark-here, with-mark-there, dec-on, cut, cut-on, cut-off}
 
 -- no two of a tree's sites have one number
 abbrev pub Proper : Tree → Type 0
@@ -75,7 +76,7 @@ module _ (types : List Repeater) where
   pub front-sink : (pin : ℕ) (due : ℤ) → Front (Reaches (sink pin due)) (pinned pin due ∷ [])
   unfolding pinned loadOf timeOf
   front-sink pin due = record {
-    rising = cons nil nil;
+    rising = leads nil ends;
     sound = cons (record { legal = empty-legal _; load = refl; time = refl }) nil;
     whole = λ c r. here (matches (sym (r .load)) (sym (r .time)));
   }
@@ -104,35 +105,35 @@ module _ (types : List Repeater) where
       go j (no h) = rw cut-off (omega arith)
 
   module _ (s t : Tree) (apart : (j : ℕ) → On s j → ¬ (On t j)) where
-    left : (p q : Placement) → Legal types t q → (j : ℕ) → On s j → join p q j ≡ p j
+    left : (p q : Placement) → Legal types t q → (j : ℕ) → On s j → joinMarks p q j ≡ p j
     left p q l j h = join-left p q j (l .only j (apart j h))
 
-    right : (p q : Placement) → Legal types s p → (j : ℕ) → On t j → join p q j ≡ q j
+    right : (p q : Placement) → Legal types s p → (j : ℕ) → On t j → joinMarks p q j ≡ q j
     right p q l j h = join-right p q j (l .only j (λ k. apart j k h))
 
-    join-legal : {p q : Placement} → Legal types s p → Legal types t q → Legal types (both s t) (join p q)
+    join-legal : {p q : Placement} → Legal types s p → Legal types t q → Legal types (both s t) (joinMarks p q)
     join-legal {p} {q} l m = record { known = λ j. go j (dec-on s j); only = λ j h. join-left p q j (m .only j (λ k. h (inr k))) ∙ l .only j (λ k. h (inl k)) }
       where
-        go : (j : ℕ) → Dec (On s j) → join p q j ≤ length types
+        go : (j : ℕ) → Dec (On s j) → joinMarks p q j ≤ length types
         go j (yes h) = rw (left p q m j h) (l .known j)
         go j (no h) = rw (join-right p q j (l .only j h)) (m .known j)
 
-    pub front-both : {l m : List (Cand Placement)} → Front (Reaches s) l → Front (Reaches t) m → Front (Reaches (both s t)) (merge join l m)
+    pub front-both : {l m : List (Cand Placement)} → Front (Reaches s) l → Front (Reaches t) m → Front (Reaches (both s t)) (merge joinMarks l m)
     unfolding joined loadOf timeOf candOf
-    front-both F G = front-wider up down (front-merge join F G)
+    front-both F G = front-wider up down (front-merge joinMarks F G)
       where
-        up : (c : Cand Placement) → Joins join (Reaches s) (Reaches t) c → Reaches (both s t) c
+        up : (c : Cand Placement) → Joins joinMarks (Reaches s) (Reaches t) c → Reaches (both s t) c
         up c (x, y, r, q, e) = rw e (record {
           legal = join-legal (r .legal) (q .legal);
           load = ap₂ _+_ (r .load ∙ sym (same-load s _ _ (left _ _ (q .legal)))) (q .load ∙ sym (same-load t _ _ (right _ _ (r .legal))));
           time = ap₂ minℤ (r .time ∙ sym (same-time s _ _ (left _ _ (q .legal)))) (q .time ∙ sym (same-time t _ _ (right _ _ (r .legal))));
         })
 
-        down : (c : Cand Placement) → Reaches (both s t) c → (d : Cand Placement) × Joins join (Reaches s) (Reaches t) d × Covers d c
+        down : (c : Cand Placement) → Reaches (both s t) c → (d : Cand Placement) × Joins joinMarks (Reaches s) (Reaches t) d × Covers d c
         down c r =
             let x = candOf s (cut s (c .place)) in
             let y = candOf t (cut t (c .place)) in (
-              joined join x y,
+              joined joinMarks x y,
               (x, y, reaches (cut-legal s (both s t) (r .legal)), reaches (cut-legal t (both s t) (r .legal)), refl),
               matches (ap₂ _+_ (same-load s _ _ (cut-on s _)) (same-load t _ _ (cut-on t _)) ∙ sym (r .load)) (ap₂ minℤ (same-time s _ _ (cut-on s _)) (same-time t _ _ (cut-on t _)) ∙ sym (r .time)),
             )
@@ -142,23 +143,23 @@ module _ (types : List Repeater) where
     off : (j : ℕ) → On t j → ¬ (j ≡ k)
     off j h e = fresh (rw e at h)
 
-    set-legal : (m : ℕ) {p : Placement} → m ≤ length types → Legal types t p → Legal types (site k t) (set k m p)
-    set-legal m {p} h l = record { known = λ j. known j (ℕ-discrete j k); only = λ j o. set-there k m p j (λ e. o (inl e)) ∙ l .only j (λ q. o (inr q)) }
+    mark-legal : (m : ℕ) {p : Placement} → m ≤ length types → Legal types t p → Legal types (site k t) (withMark k m p)
+    mark-legal m {p} h l = record { known = λ j. known j (ℕ-discrete j k); only = λ j o. with-mark-there k m p j (λ e. o (inl e)) ∙ l .only j (λ q. o (inr q)) }
       where
-        known : (j : ℕ) → Dec (j ≡ k) → set k m p j ≤ length types
-        known j (yes e) = rw (e, set-here) h
-        known j (no e) = rw set-there (l .known j)
+        known : (j : ℕ) → Dec (j ≡ k) → withMark k m p j ≤ length types
+        known j (yes e) = rw (e, with-mark-here) h
+        known j (no e) = rw with-mark-there (l .known j)
 
-    unset-legal : (p : Placement) → Legal types (site k t) p → Legal types t (set k 0 p)
-    unset-legal p l = record { known = λ j. known j (ℕ-discrete j k); only = λ j o. only j o (ℕ-discrete j k) }
+    unmark-legal : (p : Placement) → Legal types (site k t) p → Legal types t (withMark k 0 p)
+    unmark-legal p l = record { known = λ j. known j (ℕ-discrete j k); only = λ j o. only j o (ℕ-discrete j k) }
       where
-        known : (j : ℕ) → Dec (j ≡ k) → set k 0 p j ≤ length types
-        known j (yes e) = rw (e, set-here) (omega arith)
-        known j (no e) = rw set-there (l .known j)
+        known : (j : ℕ) → Dec (j ≡ k) → withMark k 0 p j ≤ length types
+        known j (yes e) = rw (e, with-mark-here) (omega arith)
+        known j (no e) = rw with-mark-there (l .known j)
 
-        only : (j : ℕ) → ¬ (On t j) → Dec (j ≡ k) → set k 0 p j ≡ 0
-        only j o (yes e) = rw (e, set-here)
-        only j o (no e) = set-there k 0 p j e ∙ l .only j (λ q. ⊎-elim e o q)
+        only : (j : ℕ) → ¬ (On t j) → Dec (j ≡ k) → withMark k 0 p j ≡ 0
+        only j o (yes e) = rw (e, with-mark-here)
+        only j o (no e) = with-mark-there k 0 p j e ∙ l .only j (λ q. ⊎-elim e o q)
 
     narrow : (p : Placement) → Legal types (site k t) p → p k ≡ 0 → Legal types t p
     narrow p l z = record { known = l .known; only = λ j o. only j o (ℕ-discrete j k) }
@@ -167,17 +168,17 @@ module _ (types : List Repeater) where
         only j o (yes e) = rw e z
         only j o (no e) = l .only j (λ q. ⊎-elim e o q)
 
-    set-load : (m : ℕ) (p : Placement) → loadOf types (set k m p) t ≡ loadOf types p t
-    set-load m p = same-load t _ _ (λ j o. set-there k m p j (off j o))
+    mark-load : (m : ℕ) (p : Placement) → loadOf types (withMark k m p) t ≡ loadOf types p t
+    mark-load m p = same-load t _ _ (λ j o. with-mark-there k m p j (off j o))
 
-    set-time : (m : ℕ) (p : Placement) → timeOf types (set k m p) t ≡ timeOf types p t
-    set-time m p = same-time t _ _ (λ j o. set-there k m p j (off j o))
+    mark-time : (m : ℕ) (p : Placement) → timeOf types (withMark k m p) t ≡ timeOf types p t
+    mark-time m p = same-time t _ _ (λ j o. with-mark-there k m p j (off j o))
 
-    pub front-site : {l : List (Cand Placement)} → Front (Reaches t) l → Front (Reaches (site k t)) (siteStep types (set k) (length types) l)
+    pub front-site : {l : List (Cand Placement)} → Front (Reaches t) l → Front (Reaches (site k t)) (siteStep types (withMark k) (length types) l)
     unfolding buffered value loadOf timeOf candOf seenLoad repeaterDelay
-    front-site {l} F = front-wider up down (front-siteStep types (set k) (length types) F)
+    front-site {l} F = front-wider up down (front-siteStep types (withMark k) (length types) F)
       where
-        up : (d : Cand Placement) → Typed types (set k) (length types) (Reaches t) d → Reaches (site k t) d
+        up : (d : Cand Placement) → Typed types (withMark k) (length types) (Reaches t) d → Reaches (site k t) d
         up d (inl r) =
             let z = r .legal .only k fresh in
             record {
@@ -186,29 +187,29 @@ module _ (types : List Repeater) where
               time = rw (z, ⊖-zero) (r .time);
             }
         up d (inr (n, h, (c, r, e))) = rw e (record {
-          legal = set-legal (suc n) h (r .legal);
-          load = rw set-here;
-          time = rw (set-here, set-load (suc n) (c .place), set-time (suc n) (c .place)) (ap₂ _⊖_ (r .time) (ap (repeaterDelay types (suc n)) (r .load)));
+          legal = mark-legal (suc n) h (r .legal);
+          load = rw with-mark-here;
+          time = rw (with-mark-here, mark-load (suc n) (c .place), mark-time (suc n) (c .place)) (ap₂ _⊖_ (r .time) (ap (repeaterDelay types (suc n)) (r .load)));
         })
 
-        down : (d : Cand Placement) → Reaches (site k t) d → (c : Cand Placement) × Typed types (set k) (length types) (Reaches t) c × Covers c d
+        down : (d : Cand Placement) → Reaches (site k t) d → (c : Cand Placement) × Typed types (withMark k) (length types) (Reaches t) c × Covers c d
         down d r = go (d .place k) refl
           where
-            go : (m : ℕ) → d .place k ≡ m → (c : Cand Placement) × Typed types (set k) (length types) (Reaches t) c × Covers c d
+            go : (m : ℕ) → d .place k ≡ m → (c : Cand Placement) × Typed types (withMark k) (length types) (Reaches t) c × Covers c d
             go zero e = (d, inl (record { legal = narrow (d .place) (r .legal) e; load = rw e at (r .load); time = rw (e, ⊖-zero) at (r .time) }), covers-refl d)
             go (suc n) e =
-                let c = candOf t (set k 0 (d .place)) in (
-                  typed types (set k) (suc n) c,
-                  inr (n, omega (arith, r .legal .known k), (c, reaches (unset-legal (d .place) (r .legal)), refl)),
-                  matches (sym (rw e at (r .load))) (ap₂ _⊖_ (set-time 0 (d .place)) (ap₂ (repeaterDelay types) (sym e) (set-load 0 (d .place))) ∙ sym (r .time)),
+                let c = candOf t (withMark k 0 (d .place)) in (
+                  typed types (withMark k) (suc n) c,
+                  inr (n, omega (arith, r .legal .known k), (c, reaches (unmark-legal (d .place) (r .legal)), refl)),
+                  matches (sym (rw e at (r .load))) (ap₂ _⊖_ (mark-time 0 (d .place)) (ap₂ (repeaterDelay types) (sym e) (mark-load 0 (d .place))) ∙ sym (r .time)),
                 )
 
   -- ---- the whole
   unfoldable pub frontOf : Tree → List (Cand Placement)
   frontOf (sink pin due) = pinned pin due ∷ []
-  frontOf (site k t) = siteStep types (set k) (length types) (frontOf t)
+  frontOf (site k t) = siteStep types (withMark k) (length types) (frontOf t)
   frontOf (wire w t) = wireStep w (frontOf t)
-  frontOf (both s t) = merge join (frontOf s) (frontOf t)
+  frontOf (both s t) = merge joinMarks (frontOf s) (frontOf t)
 
   pub method : (t : Tree) → Proper t → Front (Reaches t) (frontOf t)
   unfolding frontOf

@@ -8,12 +8,11 @@ use native.Mathlib.Omega.{arith}
 use native.Mathlib.Nat.{mul-le-mul-left}
 use native.Mathlib.Decide.{ℕ-discrete}
 use Rattle.rules.specs.Quantities.{_⊖_}
-use Rattle.rules.specs.Lists.{Pairwise, nil, cons}
 use Rattle.rules.specs.Entries.{Repeater}
 use Rattle.rules.specs.Net.{Wire}
 use Rattle.rules.specs.Slack.{typeOf, repeaterDelay, wireDelay}
 use Rattle.laws.specs.Integers.{⊖-mono}
-use Rattle.laws.specs.Lists.{all-map}
+use Rattle.laws.specs.Lists.{all-map, EveryTwo, ends, leads}
 use Rattle.laws.specs.Candidates.{Cand, Covers, Below, Front, thinIn, covers-refl, front-wider}
 use Rattle.laws.specs.Thinning.{Lighter, climbed, climbed-thinned}
 use Rattle.laws.specs.Steps.{Image, front-through, best, buffered, front-buffered, front-add}
@@ -28,10 +27,10 @@ module _ {W : Type 0} where
   unfolding behind wireDelay
   behind-mono w a b k = record { light = omega arith; late = ⊖-mono (k .late) (mul-le-mul-left (w .resistance) (omega arith)) }
 
-  lighter : (w : Wire) {l : List (Cand W)} → Pairwise Below l → Pairwise Lighter (map (behind w) l)
+  lighter : (w : Wire) {l : List (Cand W)} → EveryTwo Below l → EveryTwo Lighter (map (behind w) l)
   unfolding behind
-  lighter w nil = nil
-  lighter w (cons {x = x} h t) = cons {x = behind w x} (all-map (behind w) (λ y b. record { light = omega arith }) h) (lighter w t)
+  lighter w ends = ends
+  lighter w (leads {x = x} h t) = leads {x = behind w x} (all-map (behind w) (λ y b. record { light = omega arith }) h) (lighter w t)
 
   -- each candidate behind the wire, thinned again: a wire can turn a kept pair into a beaten one
   unfoldable pub wireStep : Wire → List (Cand W) → List (Cand W)

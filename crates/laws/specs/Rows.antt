@@ -9,6 +9,7 @@ use native.Mathlib.Numerals.{add-one}
 use lib.Dec.{T, eqb, eqb→eq, eqb-refl}
 use lib.ListN.{length, length-drop, getD, drop}
 use lib.Seq.{getD-drop}
+use Rattle.rules.specs.Quantities.{mostOhms, sitesRoom}
 use Rattle.rules.specs.declared.Row.{Row}
 use Rattle.rules.specs.Lists.{All, nil, cons}
 use Rattle.rules.specs.Entries.{Repeater, rowOf, sitesOf}
@@ -37,20 +38,10 @@ sites-drop zero rows = omega arith
 sites-drop (suc i) [] = omega arith
 sites-drop (suc i) (x ∷ rows) = omega (arith, sites-drop i rows)
 
-earlier-drop : (i j : ℕ) (rows : List Row) → Earlier i rows → Earlier (i + j) (drop j rows)
-earlier-drop i zero rows e = let z : i + 0 ≡ i = omega arith in rw z e
-earlier-drop i (suc j) [] e = tt
-earlier-drop i (suc j) (x ∷ rows) (a, b, e) = let z : i + suc j ≡ i + 1 + j = omega arith in rw z (earlier-drop (i + 1) j rows e)
-
 standing-drop : (i j : ℕ) (rows : List Row) → Standing i rows → Standing (i + j) (drop j rows)
 standing-drop i zero rows s = let z : i + 0 ≡ i = omega arith in rw z s
 standing-drop i (suc j) [] s = tt
 standing-drop i (suc j) (x ∷ rows) (a, s) = let z : i + suc j ≡ i + 1 + j = omega arith in rw z (standing-drop (i + 1) j rows s)
-
-drop-one : {A : Type 0} (i : ℕ) (l : List A) → drop i (drop 1 l) ≡ drop (suc i) l
-drop-one zero [] = refl
-drop-one (suc i) [] = refl
-drop-one i (x ∷ l) = refl
 
 -- ---- one by one
 earlier-get : (d : Row) (i j : ℕ) (rows : List Row) → Earlier i rows → j < length rows → (getD rows j d .parent < i + j) × T (not (isDriver (getD rows j d .kind)))
@@ -72,7 +63,7 @@ under-find : (d : Row) (r : ℕ) (rows : List Row) → T (under r rows) → (j :
 under-find d r [] t = absurd t
 under-find d r (x ∷ rows) t = ⊎-elim (λ e. (0, omega arith, eqb→eq (x .parent) r e)) (λ u. let (j, h, e) = under-find d r rows u in (suc j, omega arith, e)) (either (eqb (x .parent) r) (under r rows) t)
 
--- what a row behind the driver is: no driver, and under an earlier row that is no sink
+-- what a row after the driver is: no driver, and under an earlier row that is no sink
 pub record Later (rows : List Row) (d : Row) (i : ℕ) : Type 0 where
   pub kind : T (not (isDriver (getD rows i d .kind)))
   pub parent : getD rows i d .parent < i
@@ -87,17 +78,12 @@ module _ {types : List Repeater} {rows : List Row} (ok : Accepted types rows) wh
   pub rows-in-from : (i : ℕ) → All RowIn (drop i rows)
   rows-in-from i = all-drop i (ok .rows-in)
 
-  -- each under an earlier one, and no driver
-  pub earlier-from : (i : ℕ) → 1 ≤ i → Earlier i (drop i rows)
-  earlier-from zero h = absurd (omega arith)
-  earlier-from (suc i) h = let z : 1 + i ≡ suc i = omega arith in rw (z, drop-one) at (earlier-drop 1 i (drop 1 rows) (ok .earlier))
-
   -- one under each that is no sink, and none under a sink
   pub standing-from : (i : ℕ) → Standing i (drop i rows)
   standing-from i = let z : 0 + i ≡ i = omega arith in rw z at (standing-drop 0 i rows (ok .standing))
 
   -- with at most 64 sites
-  pub sites-few-from : (i : ℕ) → sitesOf (drop i rows) ≤ 64
+  pub sites-few-from : (i : ℕ) → sitesOf (drop i rows) ≤ sitesRoom
   sites-few-from i = omega (arith, sites-drop i rows, ok .sites-few)
 
   -- each type's numbers are in their ranges
@@ -109,10 +95,10 @@ module _ {types : List Repeater} {rows : List Row} (ok : Accepted types rows) wh
   row-in d i h = all-get d (ok .rows-in) i h
 
   -- the driver's resistance is in its range
-  pub driver-in : driverOhms rows ≤ 100_000
+  pub driver-in : driverOhms rows ≤ mostOhms
   driver-in = go rows (ok .rows-in)
     where
-      go : (rows : List Row) → All RowIn rows → driverOhms rows ≤ 100_000
+      go : (rows : List Row) → All RowIn rows → driverOhms rows ≤ mostOhms
       go [] h = omega arith
       go (x ∷ rows) (cons h t) = h .resistance
 
@@ -143,7 +129,7 @@ module _ {types : List Repeater} {rows : List Row} (ok : Accepted types rows) wh
       let t : T (under r (drop (suc r) rows)) = rw (getD-drop (suc r) rows (i - suc r) d, y, e) at (under-get d (i - suc r) (drop (suc r) rows) (omega (arith, length-drop (suc r) rows))) in
       rw s at t
 
-  -- each row behind the driver is under an earlier one that is no sink
+  -- each row after the driver is under an earlier one that is no sink
   pub later-at : (d : Row) (i : ℕ) → 1 ≤ i → i < length rows → Later rows d i
   later-at d i h k =
       let (p, n) = row-later d i h k in

@@ -1,15 +1,14 @@
--- Each promise settles its entry: two answers, and two memories afterwards, that one promise allows are equal. One exception is known:
--- which of several planned placements stands in the four words. Assumes nothing.
+-- Each promise settles its entry: two answers, and two memories afterwards, that one promise allows are equal; for planning, with the
+-- clause that says which placement is returned. Assumes nothing.
 use mathlib.Core.Path.{_≡_, sym, ap, _∙_}
 use mathlib.Core.Bool.{false, _||_}
 use mathlib.Core.List.{List, map}
 use mathlib.Core.Logic.{_⊎_, inl, inr}
 use mathlib.Core.Option.{Option, none, some}
-use Prim.Native.Nat.{ℕ, _+_}
+use Prim.Native.Nat.{ℕ}
 use native.Mathlib.Omega.{arith}
 use lib.IntN.{ℤ}
-use lib.ListN.{length, drop, length-append}
-use lib.Seq.{drop-at}
+use lib.ListN.{length}
 use Rattle.rules.specs.declared.Refusal.{Refusal}
 use Rattle.rules.specs.declared.Reading.{Reading}
 use Rattle.rules.specs.declared.Checking.{Checking}
@@ -17,15 +16,15 @@ use Rattle.rules.specs.declared.Slacking.{Slacking}
 use Rattle.rules.specs.declared.Planning.{Planning}
 use Rattle.rules.specs.declared.Listing.{Listing}
 use Rattle.rules.specs.Lists.{written}
-use Rattle.rules.specs.Quantities.{placementRoom}
 use Rattle.rules.specs.Entries.{Entry, Repeater, typesOf, rowsOf}
 use Rattle.rules.specs.Placements.{Placement, marks}
-use Rattle.rules.specs.Tables.{Tables, Counts, tableEntries}
+use Rattle.rules.specs.Tables.{Tables, shortTables}
 use Rattle.rules.specs.Net.{Tree, driverOhms}
-use Rattle.rules.specs.Slack.{load, IsSlack}
+use Rattle.rules.specs.Slack.{loadOf, IsSlack}
 use Rattle.rules.specs.Pairs.{Planned}
+use Rattle.rules.specs.Areas.{shortPlacement, Lent, shortLent, Storage, PlanAreas, ListAreas}
 use Rattle.rules.specs.Answers.{Timing, noTiming, refused, done, planFigures, listFigures}
-use Rattle.rules.specs.Promises.{Settled, ReadPromise, readRefusal, CheckPromise, tablesRefusal, SlackPromise, slackRefusal, TimingOf, Storage, PlanPromise, shortPlacement, PlanOf, Lent, shortLent, listRefusal, ListPromise, ListOf}
+use Rattle.rules.specs.Promises.{Handed, texted, netRefusal, Settled, ReadPromise, CheckPromise, CountPromise, SlackPromise, slackRefusal, TimingOf, PlanPromise, PlanOf, listRefusal, ListPromise, ListOf}
 use Rattle.laws.specs.Integers.{≤-antisym}
 use Rattle.laws.specs.Trees.{least-unique}
 use Rattle.laws.specs.Listing.{unbeaten-unique}
@@ -40,13 +39,18 @@ either (some r) f g p q = f r p q
 -- one text, and tables before, settle the answer and the tables after
 pub read-settled : (text : List ℕ) (before : Tables) (a b : Reading) (x y : Tables) → ReadPromise text before a x → ReadPromise text before b y → (a ≡ b) × (x ≡ y)
 unfolding ReadPromise
-read-settled text before a b x y = either (readRefusal text before) (λ r (p, m) (q, n). (read-figures a b (p ∙ sym q), m ∙ sym n)) (λ (p, m) (q, n). (read-figures a b (p ∙ sym q), m ∙ sym n))
+read-settled text before a b x y = either (netRefusal (shortTables before) (texted text)) (λ r (p, m) (q, n). (read-figures a b (p ∙ sym q), m ∙ sym n)) (λ (p, m) (q, n). (read-figures a b (p ∙ sym q), m ∙ sym n))
 
 -- ---- check_net
--- tables settle the answer
-pub check-settled : (t : Tables) (n : Counts) (a b : Checking) → CheckPromise t n a → CheckPromise t n b → a ≡ b
+-- a net settles the answer
+pub check-settled : (net : Handed) (a b : Checking) → CheckPromise net a → CheckPromise net b → a ≡ b
 unfolding CheckPromise
-check-settled t n a b = either (tablesRefusal false t n) (λ r p q. check-figures a b (p ∙ sym q)) (λ p q. check-figures a b (p ∙ sym q))
+check-settled net a b = either (netRefusal false net) (λ r p q. check-figures a b (p ∙ sym q)) (λ p q. check-figures a b (p ∙ sym q))
+
+-- also where its counts are answered
+pub count-settled : (net : Handed) (a b : Reading) → CountPromise net a → CountPromise net b → a ≡ b
+unfolding CountPromise
+count-settled net a b = either (netRefusal false net) (λ r p q. read-figures a b (p ∙ sym q)) (λ p q. read-figures a b (p ∙ sym q))
 
 -- ---- slack_of
 -- a row has one tree
@@ -63,13 +67,13 @@ pub timing-unique : (es : List Entry) (words : List ℕ) (v w : Timing) → Timi
 timing-unique es words v w f g =
     let e = one-tree (f .tree-is) (g .tree-is) in
     let s = slack-unique (typesOf es) (marks words) (driverOhms (rowsOf es)) (g .tree) (rw e at (f .slack)) (g .slack) in
-    let l : v .load ≡ w .load = f .load ∙ ap (load (typesOf es) (marks words)) e ∙ sym (g .load) in
+    let l : v .load ≡ w .load = f .load ∙ ap (loadOf (typesOf es) (marks words)) e ∙ sym (g .load) in
     λ i. record { slack = s i; load = l i }
 
--- tables and a placement settle the answer
-pub slack-settled : (t : Tables) (n : Counts) (words : List ℕ) (a b : Slacking) → SlackPromise t n words a → SlackPromise t n words b → a ≡ b
+-- a net and a placement settle the answer
+pub slack-settled : (net : Handed) (words : List ℕ) (a b : Slacking) → SlackPromise net words a → SlackPromise net words b → a ≡ b
 unfolding SlackPromise
-slack-settled t n words a b = either (slackRefusal t n words) (λ r p q. slack-figures a b (p ∙ sym q)) (λ (v, p, f) (w, q, g). slack-figures a b (p ∙ ap done (timing-unique (tableEntries t n) words v w f g) ∙ sym q))
+slack-settled net words a b = either (slackRefusal net words) (λ r p q. slack-figures a b (p ∙ sym q)) (λ (v, p, f) (w, q, g). slack-figures a b (p ∙ ap done (timing-unique (net .entries) words v w f g) ∙ sym q))
 
 -- ---- list_at
 -- a row has one list, written in one way
@@ -85,15 +89,15 @@ list-unique es row before x y m n f g = same (unbeaten-unique (rw (one-tree (f .
     same : f .list ≡ g .list → (m ≡ n) × (x ≡ y)
     same l = (f .long ∙ ap length l ∙ sym (g .long), λ i. record { loads = loads l i; times = times l i })
 
--- tables, a row and the lent areas settle the answer and every lent word after
-pub list-settled : {W : Type 0} (s : Storage W) (t : Tables) (n : Counts) (row : ℕ) (before : Lent) (work : W) (a b : Listing) (x y : Lent) (w v : W) → ListPromise s t n row before work a x w → ListPromise s t n row before work b y v → (a ≡ b) × (x ≡ y) × (w ≡ v)
+-- a net, a row and the lent areas settle the answer and every lent word after
+pub list-settled : {W : Type 0} (s : Storage W) (net : Handed) (row : ℕ) (before : ListAreas W) (a b : Listing) (x y : ListAreas W) → ListPromise s net row before a x → ListPromise s net row before b y → (a ≡ b) × (x ≡ y)
 unfolding ListPromise
-list-settled s t n row before work a b x y w v = either (listRefusal (shortLent before || s .short work) t n row) (λ r (p, f, h) (q, g, k). (list-figures a b (p ∙ sym q), f ∙ sym g, h ∙ sym k)) whereNot
+list-settled s net row before a b x y = either (listRefusal (shortLent (before .list) || s .short (before .work)) net row) (λ r (p, f) (q, g). (list-figures a b (p ∙ sym q), f ∙ sym g)) whereNot
   where
-    whereNot : (len : ℕ) × (listFigures a ≡ done len) × ListOf (tableEntries t n) row before x len × (w ≡ s .cleared work) → (len : ℕ) × (listFigures b ≡ done len) × ListOf (tableEntries t n) row before y len × (v ≡ s .cleared work) → (a ≡ b) × (x ≡ y) × (w ≡ v)
+    whereNot : (len : ℕ) × (listFigures a ≡ done len) × ListOf (net .entries) row (before .list) (x .list) len × (x .work ≡ s .cleared (before .work)) → (len : ℕ) × (listFigures b ≡ done len) × ListOf (net .entries) row (before .list) (y .list) len × (y .work ≡ s .cleared (before .work)) → (a ≡ b) × (x ≡ y)
     whereNot (i, p, f, h) (j, q, g, k) =
-        let e = list-unique (tableEntries t n) row before x y i j f g in
-        (list-figures a b (p ∙ ap done (e .0) ∙ sym q), e .1, h ∙ sym k)
+        let e = list-unique (net .entries) row (before .list) (x .list) (y .list) i j f g in
+        (list-figures a b (p ∙ ap done (e .0) ∙ sym q), λ z. record { list = e .1 z; work = (h ∙ sym k) z })
 
 -- ---- plan_net
 -- two planned placements have one slack and one load
@@ -105,41 +109,22 @@ planned-unique types driver t p q v w f g =
     let l : v .load ≡ w .load = omega (arith, f .load-is, g .load-is) in
     λ i. record { slack = s i; load = l i }
 
--- what two results of a plan have alike: the answer, the work area, the placement area's length and its part past the four words; and
--- the four words too, or else both are planned with one slack and one load
-pub record SamePlan {W : Type 0} (es : List Entry) (before : List ℕ) (a b : Planning) (x y : List ℕ) (w v : W) : Type 0 where
+-- what two results of a plan have alike by the promise alone: the answer, the work area, and the placement, or else both placements are planned
+pub record SamePlan {W : Type 0} (es : List Entry) (before : List ℕ) (a b : Planning) (x y : PlanAreas W) : Type 0 where
   pub answer : a ≡ b
-  pub work : w ≡ v
-  pub long : length x ≡ length y
-  pub past : drop placementRoom x ≡ drop placementRoom y
-  pub words : (x ≡ y) ⊎ ((timing : Timing) × (planFigures a ≡ done timing) × PlanOf es before x timing × PlanOf es before y timing)
+  pub work : x .work ≡ y .work
+  pub words : (x .placement ≡ y .placement) ⊎ ((timing : Timing) × (planFigures a ≡ done timing) × PlanOf es before (x .placement) timing × PlanOf es before (y .placement) timing)
 
-written-long : (words before after : List ℕ) → length words ≡ placementRoom → after ≡ written words before → length after ≡ placementRoom + length (drop placementRoom before)
-unfolding written
-written-long words before after four e = ap length e ∙ length-append words (drop (length words) before) ∙ rw four
-
-written-past : (words before after : List ℕ) → length words ≡ placementRoom → after ≡ written words before → drop placementRoom after ≡ drop placementRoom before
-unfolding written
-written-past words before after four e = ap (drop placementRoom) e ∙ drop-at words (drop (length words) before) placementRoom four ∙ rw four
-
--- tables and the lent areas settle all but which planned placement is returned
-pub plan-settled : {W : Type 0} (s : Storage W) (t : Tables) (n : Counts) (before : List ℕ) (work : W) (a b : Planning) (x y : List ℕ) (w v : W) → PlanPromise s t n before work a x w → PlanPromise s t n before work b y v → SamePlan (tableEntries t n) before a b x y w v
+-- a net and the lent areas settle all but which planned placement is returned
+pub plan-alike : {W : Type 0} (s : Storage W) (net : Handed) (before : PlanAreas W) (a b : Planning) (x y : PlanAreas W) → PlanPromise s net before a x → PlanPromise s net before b y → SamePlan (net .entries) (before .placement) a b x y
 unfolding PlanPromise
-plan-settled s t n before work a b x y w v = either (tablesRefusal (shortPlacement before || s .short work) t n) whereRefused whereNot
+plan-alike {W} s net before a b x y = either (netRefusal (shortPlacement (before .placement) || s .short (before .work)) net) whereRefused whereNot
   where
-    whereRefused : (r : Refusal) → (planFigures a ≡ refused noTiming r) × (x ≡ before) × (w ≡ work) → (planFigures b ≡ refused noTiming r) × (y ≡ before) × (v ≡ work) → SamePlan (tableEntries t n) before a b x y w v
-    whereRefused r (p, f, h) (q, g, k) =
-        let e : x ≡ y = f ∙ sym g in
-        record { answer = plan-figures a b (p ∙ sym q); work = h ∙ sym k; long = ap length e; past = ap (drop placementRoom) e; words = inl e }
+    whereRefused : (r : Refusal) → (planFigures a ≡ refused noTiming r) × (x ≡ before) → (planFigures b ≡ refused noTiming r) × (y ≡ before) → SamePlan (net .entries) (before .placement) a b x y
+    whereRefused r (p, f) (q, g) = record { answer = plan-figures a b (p ∙ sym q); work = ap (λ (m : PlanAreas W). m .work) (f ∙ sym g); words = inl (ap (λ (m : PlanAreas W). m .placement) (f ∙ sym g)) }
 
-    whereNot : (i : Timing) × (planFigures a ≡ done i) × PlanOf (tableEntries t n) before x i × (w ≡ s .cleared work) → (i : Timing) × (planFigures b ≡ done i) × PlanOf (tableEntries t n) before y i × (v ≡ s .cleared work) → SamePlan (tableEntries t n) before a b x y w v
+    whereNot : (i : Timing) × (planFigures a ≡ done i) × PlanOf (net .entries) (before .placement) (x .placement) i × (x .work ≡ s .cleared (before .work)) → (i : Timing) × (planFigures b ≡ done i) × PlanOf (net .entries) (before .placement) (y .placement) i × (y .work ≡ s .cleared (before .work)) → SamePlan (net .entries) (before .placement) a b x y
     whereNot (i, p, f, h) (j, q, g, k) =
         let e = one-tree (f .tree-is) (g .tree-is) in
-        let d = planned-unique (typesOf (tableEntries t n)) (driverOhms (rowsOf (tableEntries t n))) (g .tree) (marks (f .words)) (marks (g .words)) i j (rw e at (f .planned)) (g .planned) in
-        record {
-          answer = plan-figures a b (p ∙ ap done d ∙ sym q);
-          work = h ∙ sym k;
-          long = written-long (f .words) before x (f .four) (f .after-is) ∙ sym (written-long (g .words) before y (g .four) (g .after-is));
-          past = written-past (f .words) before x (f .four) (f .after-is) ∙ sym (written-past (g .words) before y (g .four) (g .after-is));
-          words = inr (i, p, f, rw (← d) at g);
-        }
+        let d = planned-unique (typesOf (net .entries)) (driverOhms (rowsOf (net .entries))) (g .tree) (marks (f .words)) (marks (g .words)) i j (rw e at (f .planned)) (g .planned) in
+        record { answer = plan-figures a b (p ∙ ap done d ∙ sym q); work = h ∙ sym k; words = inr (i, p, f, rw (← d) at g) }

@@ -8,10 +8,10 @@ use native.Mathlib.Nat.{le-trans, le-refl}
 use lib.IntN.{ℤ}
 use lib.Signed.{_≤ℤ_, _<ℤ_}
 use lib.ListN.{length}
-use Rattle.laws.specs.Integers.{times, ⊖-mono, ≤-or-<, ≤-refl, ≤-trans, minℤ, Lesser, min-lesser, min-greatest, min-above, min-mono, Order, less, equal, more, order}
+use Rattle.laws.specs.Integers.{times, ⊖-mono, ≤-or-<, ≤-refl, ≤-trans, minℤ, min-lesser, min-greatest, min-above, min-mono, Order, less, equal, more, order}
 use Rattle.rules.specs.Quantities.{_⊖_}
-use Rattle.rules.specs.Lists.{All, Pairwise, nil, cons, here, there}
-use Rattle.laws.specs.Lists.{all-imp, any-all, all-map, any-map, all-head, all-tail}
+use Rattle.rules.specs.Lists.{All, nil, cons, here, there}
+use Rattle.laws.specs.Lists.{all-imp, any-all, all-map, any-map, all-head, all-tail, EveryTwo, ends, leads}
 use Rattle.laws.specs.Thinning.{Thinned, front-thinned}
 use Rattle.laws.specs.Candidates.{Cand, Covers, Below, Covered, Front, thinIn, covers-refl, front-in, front-wider}
 
@@ -61,18 +61,18 @@ module _ {W : Type 0} (delay : ℕ → ℕ) where
       go (inl h) = p
       go (inr h) = q
 
-  best-better : (x : Cand W) (l : List (Cand W)) → Pairwise Below (x ∷ l) → All (Better (best x l)) (x ∷ l)
+  best-better : (x : Cand W) (l : List (Cand W)) → EveryTwo Below (x ∷ l) → All (Better (best x l)) (x ∷ l)
   unfolding best pick
   best-better x [] r = cons (better-refl x) nil
-  best-better x (y ∷ l) (cons (cons b bs) (cons c cs)) = go (≤-or-< (value y) (value x)) (λ z. best-better z l)
+  best-better x (y ∷ l) (leads (cons b bs) (leads c cs)) = go (≤-or-< (value y) (value x)) (λ z. best-better z l)
     where
-      go : (s : (value y ≤ℤ value x) ⊎ (value x <ℤ value y)) → ((z : Cand W) → Pairwise Below (z ∷ l) → All (Better (best z l)) (z ∷ l)) → All (Better (best (pick x y s) l)) (x ∷ y ∷ l)
+      go : (s : (value y ≤ℤ value x) ⊎ (value x <ℤ value y)) → ((z : Cand W) → EveryTwo Below (z ∷ l) → All (Better (best z l)) (z ∷ l)) → All (Better (best (pick x y s) l)) (x ∷ y ∷ l)
       go (inl h) ih =
-          let a = ih x (cons bs cs) in
+          let a = ih x (leads bs cs) in
           let k : Better x y = record { noLess = h; tie = λ q. omega arith } in
           cons (all-head a) (cons (better-trans (all-head a) k) (all-tail a))
       go (inr h) ih =
-          let a = ih y (cons c cs) in
+          let a = ih y (leads c cs) in
           let k : Better y x = record { noLess = omega times; tie = λ q. absurd (omega times) } in
           cons (better-trans (all-head a) k) a
 
@@ -93,7 +93,7 @@ module _ {W : Type 0} (shown : ℕ) (delay : ℕ → ℕ) (mark : W → W) where
   unfolding buffered
   front-buffered {R} {x} {l} rises F =
       let b = front-best delay rises F in
-      record { rising = cons nil nil; sound = cons (_, b .0, refl) nil; whole = go (b .1) }
+      record { rising = leads nil ends; sound = cons (_, b .0, refl) nil; whole = go (b .1) }
     where
       go : ((d : Cand W) → R d → Better delay (best delay x l) d) → (d : Cand W) → Image buffered R d → Covered (buffered (best delay x l) ∷ []) d
       go b d (c, r, e) = rw e (here (record { light = le-refl _; late = b c r .noLess }))
@@ -132,11 +132,6 @@ next a b c (equal h) = c
 module _ {W : Type 0} (join : W → W → W) where
   unfoldable pub joined : Cand W → Cand W → Cand W
   joined a b = record { load = a .load + b .load; time = minℤ (a .time) (b .time); place = join (a .place) (b .place) }
-
-  -- of the two times the lesser counts
-  pub joined-time : (a b : Cand W) → Lesser (a .time) (b .time) (joined a b .time)
-  unfolding joined
-  joined-time a b = min-lesser (a .time) (b .time)
 
   abbrev pub Joins : (R S : Cand W → Type 0) → Cand W → Type 0
   Joins R S d = (a : Cand W) × (b : Cand W) × R a × S b × (d ≡ joined a b)
@@ -192,19 +187,19 @@ module _ {W : Type 0} (join : W → W → W) where
       let j = min-above r (q .early) in
       omega times
 
-  merge-rising : {l m : List (Cand W)} → Pairwise Below l → Pairwise Below m → Pairwise Below (merge l m)
+  pub merge-rising : {l m : List (Cand W)} → EveryTwo Below l → EveryTwo Below m → EveryTwo Below (merge l m)
   unfolding merge mergeAt next
-  merge-rising nil q = nil
-  merge-rising (cons {x = x} {xs = l} p ps) q = at q (λ k r. merge-rising ps r)
+  merge-rising ends q = ends
+  merge-rising (leads {x = x} {xs = l} p ps) q = at q (λ k r. merge-rising ps r)
     where
-      at : {m : List (Cand W)} → Pairwise Below m → ((k : List (Cand W)) → Pairwise Below k → Pairwise Below (merge l k)) → Pairwise Below (mergeAt x (merge l) m)
-      at nil ih = nil
-      at (cons {x = y} {xs = ys} q qs) ih = go (order (x .time) (y .time)) (at qs ih)
+      at : {m : List (Cand W)} → EveryTwo Below m → ((k : List (Cand W)) → EveryTwo Below k → EveryTwo Below (merge l k)) → EveryTwo Below (mergeAt x (merge l) m)
+      at ends ih = ends
+      at (leads {x = y} {xs = ys} q qs) ih = go (order (x .time) (y .time)) (at qs ih)
         where
-          go : (o : Order (x .time) (y .time)) → Pairwise Below (mergeAt x (merge l) ys) → Pairwise Below (joined x y ∷ next (merge l (y ∷ ys)) (mergeAt x (merge l) ys) (merge l ys) o)
-          go (less h) k = cons (merge-all (λ a b s t. rise-x x y (omega times) a b s t (omega times)) p (ups q)) (ih (y ∷ ys) (cons q qs))
-          go (equal h) k = cons (merge-all (λ a b s t. rise-x x y (omega times) a b s (omega times) (omega times)) p q) (ih ys qs)
-          go (more h) k = cons (merge-all (λ a b s t. rise-y x y (omega times) a b s t (omega times)) (ups p) q) k
+          go : (o : Order (x .time) (y .time)) → EveryTwo Below (mergeAt x (merge l) ys) → EveryTwo Below (joined x y ∷ next (merge l (y ∷ ys)) (mergeAt x (merge l) ys) (merge l ys) o)
+          go (less h) k = leads (merge-all (λ a b s t. rise-x x y (omega times) a b s t (omega times)) p (ups q)) (ih (y ∷ ys) (leads q qs))
+          go (equal h) k = leads (merge-all (λ a b s t. rise-x x y (omega times) a b s (omega times) (omega times)) p q) (ih ys qs)
+          go (more h) k = leads (merge-all (λ a b s t. rise-y x y (omega times) a b s t (omega times)) (ups p) q) k
 
   -- the heads joined cover what a head of no greater time is in
   joined-mono : {a b c d : Cand W} → Covers a c → Covers b d → Covers (joined a b) (joined c d)
@@ -229,30 +224,30 @@ module _ {W : Type 0} (join : W → W → W) where
   head-light : {x c : Cand W} {l : List (Cand W)} → All (Below x) l → Covered l c → x .load ≤ c .load
   head-light b k = let (z, h, j) = any-all b k in omega arith
 
-  merge-whole : {c d : Cand W} {l m : List (Cand W)} → Pairwise Below l → Pairwise Below m → Covered l c → Covered m d → Covered (merge l m) (joined c d)
+  merge-whole : {c d : Cand W} {l m : List (Cand W)} → EveryTwo Below l → EveryTwo Below m → Covered l c → Covered m d → Covered (merge l m) (joined c d)
   unfolding merge mergeAt next
-  merge-whole nil q h k = absurd (elim h [ ])
-  merge-whole {c} {d} (cons {x = x} {xs = l} p ps) q h k = at q h k (λ i r h k. merge-whole ps r h k)
+  merge-whole ends q h k = absurd (elim h [ ])
+  merge-whole {c} {d} (leads {x = x} {xs = l} p ps) q h k = at q h k (λ i r h k. merge-whole ps r h k)
     where
-      at : {m : List (Cand W)} → Pairwise Below m → Covered (x ∷ l) c → Covered m d → ((i : List (Cand W)) → Pairwise Below i → Covered l c → Covered i d → Covered (merge l i) (joined c d)) → Covered (mergeAt x (merge l) m) (joined c d)
-      at nil h k ih = absurd (elim k [ ])
-      at (cons q qs) (here h) (here k) ih = here (joined-mono h k)
-      at (cons {x = y} {xs = ys} q qs) (here h) (there k) ih = go (order (x .time) (y .time)) (at qs (here h) k ih)
+      at : {m : List (Cand W)} → EveryTwo Below m → Covered (x ∷ l) c → Covered m d → ((i : List (Cand W)) → EveryTwo Below i → Covered l c → Covered i d → Covered (merge l i) (joined c d)) → Covered (mergeAt x (merge l) m) (joined c d)
+      at ends h k ih = absurd (elim k [ ])
+      at (leads q qs) (here h) (here k) ih = here (joined-mono h k)
+      at (leads {x = y} {xs = ys} q qs) (here h) (there k) ih = go (order (x .time) (y .time)) (at qs (here h) k ih)
         where
           go : (o : Order (x .time) (y .time)) → Covered (mergeAt x (merge l) ys) (joined c d) → Covered (joined x y ∷ next (merge l (y ∷ ys)) (mergeAt x (merge l) ys) (merge l ys) o) (joined c d)
           go (less t) r = here (cover-x x y c d (omega times) h (head-light q k))
           go (equal t) r = here (cover-x x y c d (omega times) h (head-light q k))
           go (more t) r = there r
-      at (cons {x = y} {xs = ys} q qs) (there h) (here k) ih = go (order (x .time) (y .time))
+      at (leads {x = y} {xs = ys} q qs) (there h) (here k) ih = go (order (x .time) (y .time))
         where
           go : (o : Order (x .time) (y .time)) → Covered (joined x y ∷ next (merge l (y ∷ ys)) (mergeAt x (merge l) ys) (merge l ys) o) (joined c d)
-          go (less t) = there (ih (y ∷ ys) (cons q qs) h (here k))
+          go (less t) = there (ih (y ∷ ys) (leads q qs) h (here k))
           go (equal t) = here (cover-y x y c d (omega times) k (head-light p h))
           go (more t) = here (cover-y x y c d (omega times) k (head-light p h))
-      at (cons {x = y} {xs = ys} q qs) (there h) (there k) ih = go (order (x .time) (y .time)) (at qs (there h) k ih)
+      at (leads {x = y} {xs = ys} q qs) (there h) (there k) ih = go (order (x .time) (y .time)) (at qs (there h) k ih)
         where
           go : (o : Order (x .time) (y .time)) → Covered (mergeAt x (merge l) ys) (joined c d) → Covered (joined x y ∷ next (merge l (y ∷ ys)) (mergeAt x (merge l) ys) (merge l ys) o) (joined c d)
-          go (less t) r = there (ih (y ∷ ys) (cons q qs) h (there k))
+          go (less t) r = there (ih (y ∷ ys) (leads q qs) h (there k))
           go (equal t) r = there (ih ys qs h k)
           go (more t) r = there r
 

@@ -2,31 +2,30 @@
 use mathlib.Core.Path.{_≡_, refl, ap, ap₂, _∙_}
 use mathlib.Core.Bool.{Bool, true, false, cond, _&&_}
 use mathlib.Core.List.{List, [], _∷_, _++_}
-use mathlib.Core.Option.{Option, none, some}
+use mathlib.Core.Option.{Option, none, some, orElse}
 use Prim.Native.Nat.{ℕ, zero, suc, _+_, _*_, _≤_, _<_, min}
 use native.Mathlib.Omega.{arith}
 use lib.Dec.{eqb, ltb, eqb→eq, T}
-use lib.IntN.{ℤ, pos, negsuc}
+use lib.IntN.{ℤ, pos}
 use lib.ListN.{length, getD}
 use borrow.Author.Tests.{ltb-false}
 use Rattle.rules.specs.declared.Kind.{Kind}
 use Rattle.rules.specs.declared.Kind.the-variants.{Driver, Point, Sink}
 use Rattle.rules.specs.declared.Row.{Row}
-use Rattle.rules.specs.Lists.{orElse}
 use Rattle.rules.specs.Quantities.{typesRoom, rowsRoom}
 use Rattle.rules.specs.Entries.{Entry, type, driver, point, sink, malformed, beyond, Repeater, typesOf, rowsOf, rowOf}
-use Rattle.rules.specs.Tables.{Tables, Counts, typeWords, rowWords, typeEntry, rowBy, rowEntry, from, counted, tableEntries, isZero}
+use Rattle.rules.specs.Tables.{Tables, Counts, typeWords, rowWords, typeEntry, rowBy, rowEntry, from, counted, tableEntries, isZero, typeResistance, typeOwn, rowParent, rowResistance, rowCapacitance, rowSite, rowPin, driverKind, pointKind}
 use Rattle.rules.specs.Refusals.{refusalOf, firstRefusal, lineRefusal, misplaced, outOfRange, tooMany}
 
--- 0 a driver, 1 a plain point, else a sink
+-- by its number a driver, a plain point, else a sink
 unfoldable pub kindOf : (kind pin : ℕ) (due : ℤ) → Kind
-kindOf kind pin due = cond (eqb kind 0) Driver (cond (eqb kind 1) Point (Sink (record { load = record { 0 = pin }; due = record { 0 = due } })))
+kindOf kind pin due = cond (eqb kind driverKind) Driver (cond (eqb kind pointKind) Point (Sink (record { load = record { 0 = pin }; due = record { 0 = due } })))
 
 -- row i of the words
 unfoldable pub rowAt : List ℕ → List ℤ → (i : ℕ) → Row
 rowAt words due i =
-    rowOf (getD words (rowWords * i + 1) 0) (getD words (rowWords * i + 2) 0) (getD words (rowWords * i + 3) 0) (getD words (rowWords * i + 4) 0)
-    (kindOf (getD words (rowWords * i + 0) 0) (getD words (rowWords * i + 5) 0) (getD due i (pos 0)))
+    rowOf (getD words (rowWords * i + rowParent) 0) (getD words (rowWords * i + rowResistance) 0) (getD words (rowWords * i + rowCapacitance) 0) (getD words (rowWords * i + rowSite) 0)
+    (kindOf (getD words (rowWords * i + 0) 0) (getD words (rowWords * i + rowPin) 0) (getD due i (pos 0)))
 
 -- n rows from row i on
 unfoldable pub rowsFrom : List ℕ → List ℤ → (i n : ℕ) → List Row
@@ -35,7 +34,7 @@ rowsFrom words due i (suc n) = rowAt words due i ∷ rowsFrom words due (i + 1) 
 
 -- type i of the words, and n types from type i on
 unfoldable pub repeaterAt : List ℕ → (i : ℕ) → Repeater
-repeaterAt words i = record { input = getD words (typeWords * i) 0; resistance = getD words (typeWords * i + 1) 0; own = getD words (typeWords * i + 2) 0 }
+repeaterAt words i = record { input = getD words (typeWords * i) 0; resistance = getD words (typeWords * i + typeResistance) 0; own = getD words (typeWords * i + typeOwn) 0 }
 
 unfoldable pub repeatersFrom : List ℕ → (i n : ℕ) → List Repeater
 repeatersFrom words i zero = []
@@ -80,11 +79,12 @@ never : {A : Type 0} {a : A} → some a ≡ none → ⊥
 never e = let z : _≡_ {A = ℕ} 0 1 = cc in omega arith
 
 first-none : {A : Type 0} (a b : Option A) → orElse a b ≡ none → (a ≡ none) × (b ≡ none)
+unfolding orElse
 first-none none b e = (refl, e)
 first-none (some x) b e = absurd (never e)
 
 formed-line : (before : List Entry) (e : Entry) → lineRefusal before e ≡ none → Formed e
-unfolding lineRefusal misplaced outOfRange tooMany
+unfolding lineRefusal misplaced outOfRange tooMany orElse
 formed-line before (type input resistance own) q = tt
 formed-line before (driver resistance) q = tt
 formed-line before (point parent resistance capacitance site) q = tt
@@ -156,11 +156,6 @@ module _ (t : Tables) where
   rows-types i (suc n) = rows-types (i + 1) n
 
   -- ---- rows
-  zero-is : (d : ℤ) → T (isZero d) → d ≡ pos 0
-  unfolding isZero
-  zero-is (pos n) h = ap pos (eqb→eq n 0 h)
-  zero-is (negsuc n) h = absurd h
-
   both-true : (a b : Bool) → T (a && b) → T a × T b
   both-true true b h = (tt, h)
   both-true false b h = absurd h
@@ -203,7 +198,7 @@ module _ (t : Tables) where
   unfolding from rowEntry rowsFrom rowAt rowsOf typesOf
   rows-rows i zero a = (refl, refl)
   rows-rows i (suc n) a =
-      let h = row-is (getD (t .rows) (rowWords * i + 0) 0) (getD (t .rows) (rowWords * i + 1) 0) (getD (t .rows) (rowWords * i + 2) 0) (getD (t .rows) (rowWords * i + 3) 0) (getD (t .rows) (rowWords * i + 4) 0) (getD (t .rows) (rowWords * i + 5) 0) (getD (t .due) i (pos 0)) (from (rowEntry t) (i + 1) n) (a .0) in
+      let h = row-is (getD (t .rows) (rowWords * i + 0) 0) (getD (t .rows) (rowWords * i + rowParent) 0) (getD (t .rows) (rowWords * i + rowResistance) 0) (getD (t .rows) (rowWords * i + rowCapacitance) 0) (getD (t .rows) (rowWords * i + rowSite) 0) (getD (t .rows) (rowWords * i + rowPin) 0) (getD (t .due) i (pos 0)) (from (rowEntry t) (i + 1) n) (a .0) in
       let k = rows-rows (i + 1) n (a .1) in
       (h .0 ∙ ap (λ l. rowAt (t .rows) (t .due) i ∷ l) (k .0), h .1 ∙ k .1)
 

@@ -3,7 +3,7 @@
 use mathlib.Core.Path.{_≡_, refl}
 use mathlib.Core.Bool.{Bool, true, false, not}
 use mathlib.Core.List.{List, [], _∷_, _++_, append-nil}
-use mathlib.Core.Option.{Option, none, some, Option·some-ne-none}
+use mathlib.Core.Option.{Option, none, some, Option·some-ne-none, orElse}
 use Prim.Native.Nat.{ℕ, _≤_, _<_}
 use lib.Dec.{T, leb, ltb, eqb, nltb→le, nleb→lt}
 use lib.ListN.{length}
@@ -13,7 +13,6 @@ use Rattle.rules.specs.declared.Kind.{Kind}
 use Rattle.rules.specs.declared.Kind.the-variants.{Driver, Point, Sink}
 use Rattle.rules.specs.declared.Refusal.{Refusal}
 use Rattle.rules.specs.declared.Row.{Row}
-use Rattle.rules.specs.Lists.{orElse}
 use Rattle.rules.specs.Quantities.{mostOhms, mostFemtofarads, mostOwn, earliestDue, latestDue, mostParent, typesRoom, rowsRoom, sitesRoom}
 use Rattle.rules.specs.Entries.{Entry, type, driver, point, sink, malformed, beyond, Repeater, typesOf, rowsOf, rowOf, sitesOf}
 use Rattle.rules.specs.Refusals.{some?, misplaced, wireOut, outOfRange, rowTooMany, tooMany, noParent, orphan, lineRefusal, lastRefusal, firstRefusal, refusalOf}
@@ -30,20 +29,20 @@ isDriver (Sink pin) = false
 abbrev pub KindIn : Kind → Type 0
 KindIn Driver = Unit {0}
 KindIn Point = Unit {0}
-KindIn (Sink pin) = (pin .load .0 ≤ 100_000) × (earliestDue ≤ℤ pin .due .0) × (pin .due .0 ≤ℤ latestDue)
+KindIn (Sink pin) = (pin .load .0 ≤ mostFemtofarads) × (earliestDue ≤ℤ pin .due .0) × (pin .due .0 ≤ℤ latestDue)
 
 -- a row's numbers are in their ranges
 pub record RowIn (x : Row) : Type 0 where
-  pub parent : x .parent ≤ 255
-  pub resistance : x .resistance .0 ≤ 100_000
-  pub capacitance : x .capacitance .0 ≤ 100_000
+  pub parent : x .parent ≤ mostParent
+  pub resistance : x .resistance .0 ≤ mostOhms
+  pub capacitance : x .capacitance .0 ≤ mostFemtofarads
   pub kind : KindIn (x .kind)
 
 -- the driver's row
 unfoldable pub driverRow : (resistance : ℕ) → Row
 driverRow resistance = rowOf 0 resistance 0 0 Driver
 
--- what a row behind `rows` is
+-- what a row after `rows` is
 pub record Further (rows : List Row) (x : Row) : Type 0 where
   pub driven : T (some? rows)
   pub kind : T (not (isDriver (x .kind)))
@@ -81,13 +80,13 @@ rowsOf-append (malformed ∷ a) b = rowsOf-append a b
 rowsOf-append (beyond ∷ a) b = rowsOf-append a b
 
 -- none of the four of a line
-record Fine (before : List Entry) (e : Entry) : Type 0 where
-  placed : T (not (misplaced (some? (rowsOf before)) e))
-  inside : T (not (outOfRange e))
-  few : T (not (tooMany before e))
-  parent : T (not (orphan before e))
+pub record Fine (before : List Entry) (e : Entry) : Type 0 where
+  pub placed : T (not (misplaced (some? (rowsOf before)) e))
+  pub inside : T (not (outOfRange e))
+  pub few : T (not (tooMany before e))
+  pub parent : T (not (orphan before e))
 
-fine : (before : List Entry) (e : Entry) → lineRefusal before e ≡ none → Fine before e
+pub fine : (before : List Entry) (e : Entry) → lineRefusal before e ≡ none → Fine before e
 unfolding lineRefusal
 fine before e h =
     let (a, h) = passes (misplaced (some? (rowsOf before)) e) _ _ h in
@@ -132,7 +131,7 @@ one-more before malformed f t = absurd (f .placed)
 one-more before beyond f t = absurd (f .few)
 
 walked : (before rest : List Entry) → firstRefusal before rest ≡ none → Taken (typesOf before) (rowsOf before) → Taken (typesOf (before ++ rest)) (rowsOf (before ++ rest)) × (lastRefusal (before ++ rest) ≡ none)
-unfolding firstRefusal
+unfolding firstRefusal orElse
 walked before [] h t = rw append-nil (t, h)
 walked before (e ∷ rest) h t =
     let (l, h) = go (lineRefusal before e) refl h in

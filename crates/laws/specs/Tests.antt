@@ -1,12 +1,12 @@
 -- What a test that passed says, and one that did not. Assumes nothing.
 use mathlib.Core.Path.{_≡_, refl}
-use mathlib.Core.Bool.{Bool, true, false, cond, not, _&&_, _||_}
+use mathlib.Core.Bool.{Bool, true, false, cond, not, _&&_, _||_, true≢false}
 use mathlib.Core.Logic.{_≢_, _⊎_, inl, inr}
-use mathlib.Core.Option.{Option, none, some, Option·some-ne-none}
+use mathlib.Core.Option.{Option, none, some, Option·some-ne-none, orElse}
 use Prim.Native.Nat.{ℕ, _≤_}
 use native.Mathlib.Omega.{arith}
 use lib.Dec.{T, ltb, eqb, not-T, ltb→lt, eqb→eq, eqb-refl}
-use Rattle.rules.specs.Lists.{orElse, when}
+use Rattle.rules.specs.Lists.{givenWhen}
 
 -- neither of two passed
 pub not-or : (a b : Bool) → T (not (a || b)) → T (not a) × T (not b)
@@ -39,6 +39,15 @@ pub not-not : (b : Bool) → T (not (not b)) → T b
 not-not true h = tt
 not-not false h = h
 
+-- as equations
+pub is-false : (b : Bool) → T (not b) → b ≡ false
+is-false true h = absurd h
+is-false false h = refl
+
+pub both-false : (a b : Bool) → a || b ≡ false → (a ≡ false) × (b ≡ false)
+both-false true b e = absurd (true≢false e)
+both-false false b e = (refl, e)
+
 -- tests of numbers
 pub same : {m n : ℕ} → m ≡ n → T (eqb m n)
 same {m} {n} e = rw e (eqb-refl n)
@@ -59,18 +68,21 @@ cond-no true a c t = absurd t
 cond-no false a c t = refl
 
 -- what would be refused, and is not
-pub passes : {A : Type 0} (b : Bool) (a : A) (rest : Option A) → orElse (when b a) rest ≡ none → T (not b) × (rest ≡ none)
+pub passes : {A : Type 0} (b : Bool) (a : A) (rest : Option A) → orElse (givenWhen b a) rest ≡ none → T (not b) × (rest ≡ none)
+unfolding orElse
 passes true a rest e = absurd (Option·some-ne-none a e)
 passes false a rest e = (tt, e)
 
-pub passed : {A : Type 0} (b : Bool) (a : A) → when b a ≡ none → T (not b)
+pub passed : {A : Type 0} (b : Bool) (a : A) → givenWhen b a ≡ none → T (not b)
 passed true a e = Option·some-ne-none a e
 passed false a e = tt
 
 -- neither of two is refused
 pub none-both : {A : Type 0} (a b : Option A) → orElse a b ≡ none → (a ≡ none) × (b ≡ none)
+unfolding orElse
 none-both none b e = (refl, e)
 none-both (some x) b e = absurd (Option·some-ne-none x e)
 
 pub none-either : {A : Type 0} {a b : Option A} → a ≡ none → b ≡ none → orElse a b ≡ none
+unfolding orElse
 none-either h k = rw h k

@@ -10,7 +10,7 @@ use Rattle.rules.specs.Lists.{Least, nil, cons, here}
 use Rattle.rules.specs.Entries.{Repeater}
 use Rattle.rules.specs.Placements.{Placement}
 use Rattle.rules.specs.Net.{Tree, sink, site, wire, both}
-use Rattle.rules.specs.Slack.{wireDelay, repeaterDelay, load, slacks, IsSlack}
+use Rattle.rules.specs.Slack.{wireDelay, repeaterDelay, loadOf, slacks, IsSlack}
 use Rattle.laws.specs.Integers.{⊖-swap, ⊖-zero, minℤ, Lesser, min-lesser, min-⊖, ≤-trans, ≤-refl, ≤-antisym}
 use Rattle.laws.specs.Lists.{all-imp, any-imp, any-all, all-++, any-left, any-right}
 
@@ -37,15 +37,15 @@ module _ (types : List Repeater) (p : Placement) where
   -- from the sinks up: the least, over sinks, of required time minus the delays between here and the sink
   unfoldable pub time : Tree → ℤ
   time (sink pin due) = due
-  time (site j t) = time t ⊖ repeaterDelay types (p j) (load types p t)
-  time (wire w t) = time t ⊖ wireDelay w (load types p t)
+  time (site j t) = time t ⊖ repeaterDelay types (p j) (loadOf types p t)
+  time (wire w t) = time t ⊖ wireDelay w (loadOf types p t)
   time (both s t) = minℤ (time s) (time t)
 
   time-least : (arrival : ℕ) (t : Tree) → Least (time t ⊖ arrival) (slacks types p arrival t)
   unfolding time slacks
   time-least d (sink pin due) = record { below = cons (≤-refl _) nil; among = here refl }
-  time-least d (site j t) = least-at (⊖-swap _ d _) (time-least (d + repeaterDelay types (p j) (load types p t)) t)
-  time-least d (wire w t) = least-at (⊖-swap _ d _) (time-least (d + wireDelay w (load types p t)) t)
+  time-least d (site j t) = least-at (⊖-swap _ d _) (time-least (d + repeaterDelay types (p j) (loadOf types p t)) t)
+  time-least d (wire w t) = least-at (⊖-swap _ d _) (time-least (d + wireDelay w (loadOf types p t)) t)
   time-least d (both s t) = rw (← min-⊖) (least-++ (time-least d s) (time-least d t))
 
   -- the time is the least, over the sinks at or below, of required time minus the delays between
@@ -53,6 +53,6 @@ module _ (types : List Repeater) (p : Placement) where
   time-is t = least-at (⊖-zero _) (time-least 0 t)
 
   -- the slack walked from the driver down is the time at the driver less the driver's delay
-  pub slack-is : (driver : ℕ) (t : Tree) → IsSlack types p driver t (time t ⊖ (driver * load types p t))
+  pub slack-is : (driver : ℕ) (t : Tree) → IsSlack types p driver t (time t ⊖ (driver * loadOf types p t))
   unfolding IsSlack
-  slack-is driver t = time-least (driver * load types p t) t
+  slack-is driver t = time-least (driver * loadOf types p t) t

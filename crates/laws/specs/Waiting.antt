@@ -3,7 +3,7 @@
 use mathlib.Core.Path.{_≡_, subst}
 use mathlib.Core.List.{List}
 use mathlib.Core.Option.{Option, none, some}
-use Prim.Native.Nat.{ℕ, zero, suc, _+_, _*_, _≤_, _<_}
+use Prim.Native.Nat.{ℕ, zero, suc, _+_, _*_, _≤_, _<_, _-_}
 use native.Mathlib.Omega.{arith}
 use native.Mathlib.Nat.{mul-le-mul}
 use lib.ListN.{length, length-drop, drop}
@@ -61,7 +61,7 @@ module _ (types : List Repeater) where
 
 module _ {types : List Repeater} {rows : List Row} (ok : Accepted types rows) where
   -- at most 511 candidates wait
-  pub accepted-waiting : (i k : ℕ) (lists : ℕ → Option (List (Cand Placement))) → 1 ≤ i → ((r : ℕ) → r < i → FrontIf types (hangs i k (drop i rows) r) (lists r)) → sumTo (λ r. lengthIf types (lists r)) i ≤ 511
+  pub accepted-waiting : (i k : ℕ) (lists : ℕ → Option (List (Cand Placement))) → 1 ≤ i → ((r : ℕ) → r < i → FrontIf types (hangs i k (drop i rows) r) (lists r)) → sumTo (λ r. lengthIf types (lists r)) i ≤ workRoom - listRoom
   accepted-waiting i k lists h W = omega (arith, waiting-length types i k (drop i rows) lists W, length-drop i rows, ok .rows-few, mul-le-mul (ok .types-few) (sites-few-from ok i))
 
   -- the list being made holds at most 257

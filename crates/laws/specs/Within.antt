@@ -4,11 +4,10 @@ use mathlib.Core.Path.{_≡_, subst}
 use mathlib.Core.Bool.{Bool, true, false, cond}
 use mathlib.Core.List.{List, [], _∷_}
 use mathlib.Core.Option.{Option, none, some}
-use Prim.Native.Nat.{ℕ, _+_, _*_, _≤_, _<_}
+use Prim.Native.Nat.{ℕ, _+_, _*_, _≤_, _<_, _-_}
 use native.Mathlib.Omega.{arith}
 use native.Mathlib.Numerals.{add-one}
 use lib.Dec.{eqb}
-use lib.IntN.{ℤ}
 use lib.ListN.{length, length-drop, getD, take, drop}
 use lib.Seq.{drop-cons}
 use lib.Signed.{_≤ℤ_}
@@ -16,17 +15,17 @@ use Rattle.rules.specs.declared.Kind.{Kind}
 use Rattle.rules.specs.declared.Kind.the-variants.{Driver, Point, Sink}
 use Rattle.rules.specs.declared.Row.{Row}
 use Rattle.rules.specs.Lists.{All, cons}
-use Rattle.rules.specs.Quantities.{_⊖_, mostLoad, leastSlack, mostSlack}
+use Rattle.rules.specs.Quantities.{_⊖_, mostOhms, mostFemtofarads, rowsRoom, sitesRoom}
 use Rattle.rules.specs.Entries.{Repeater, siteCount, sitesOf}
 use Rattle.rules.specs.Placements.{Placement}
 use Rattle.rules.specs.Net.{Wire, Tree, sink, wireOf, sited, seen, wired, beside, hangs, atRow, driverOhms}
-use Rattle.rules.specs.Slack.{load, IsSlack}
-use Rattle.rules.specs.Pairs.{sitesOn, Pair, Legal, PairOf}
+use Rattle.rules.specs.Slack.{loadOf}
+use Rattle.rules.specs.Pairs.{sitesOn}
 use Rattle.laws.specs.Integers.{times, ⊖-read}
 use Rattle.laws.specs.Candidates.{Cand}
 use Rattle.laws.specs.Method.{Reaches}
-use Rattle.laws.specs.Trees.{time, time-is, slack-is, least-unique}
-use Rattle.laws.specs.Ranges.{InRange, weight, stages, load-range, slack-low, slack-top}
+use Rattle.laws.specs.Trees.{time}
+use Rattle.laws.specs.Ranges.{mostLoad, leastSlack, mostSlack, InRange, weight, stages, load-range, slack-low, slack-top}
 use Rattle.laws.specs.Taken.{RowIn, KindIn, driverRow}
 use Rattle.laws.specs.Accepted.{Accepted}
 use Rattle.laws.specs.Rows.{rows-in-from, sites-few-from, type-in, driver-in}
@@ -49,7 +48,7 @@ in-seen b Driver k (some n) t i = in-sited b k n i
 in-seen b Point k none t i = tt
 in-seen b Point k (some n) t i = in-sited b k n i
 
-in-wired : (w : Wire) (u : Option Tree) → w .resistance ≤ 100_000 → w .capacitance ≤ 100_000 → InIf u → InIf (wired w u)
+in-wired : (w : Wire) (u : Option Tree) → w .resistance ≤ mostOhms → w .capacitance ≤ mostFemtofarads → InIf u → InIf (wired w u)
 in-wired w none h g i = tt
 in-wired w (some t) h g i = (h, g, i)
 
@@ -72,12 +71,12 @@ in-hangs i k (x ∷ rows) (cons h t) r = in-beside (eqb (x .parent) r) (hung x k
 -- a tree, if there is one, in its ranges and of at most 512 wires and pins, 319 wires and sites, and 64 sites
 pub record Within (u : Option Tree) : Type 0 where
   pub inside : InIf u
-  pub light : over weight u ≤ 512
-  pub short : over stages u ≤ 319
-  pub few : over sitesOn u ≤ 64
+  pub light : over weight u ≤ 2 * rowsRoom
+  pub short : over stages u ≤ rowsRoom + sitesRoom - 1
+  pub few : over sitesOn u ≤ sitesRoom
 
 -- what hangs under a row among at most 255 others
-pub within-hangs : (i k : ℕ) (rows : List Row) (r : ℕ) → r < i → All RowIn rows → length rows ≤ 255 → sitesOf rows ≤ 64 → Within (hangs i k rows r)
+pub within-hangs : (i k : ℕ) (rows : List Row) (r : ℕ) → r < i → All RowIn rows → length rows ≤ rowsRoom - 1 → sitesOf rows ≤ sitesRoom → Within (hangs i k rows r)
 within-hangs i k rows r h a l s = record {
   inside = in-hangs i k rows a r;
   light = omega (arith, hangs-over measure-weight i k rows r h);
@@ -86,7 +85,7 @@ within-hangs i k rows r h a l s = record {
 }
 
 -- a row with its wire, over what hangs under it, of at most 255
-pub within-hung : (i k : ℕ) (x : Row) (rows : List Row) → All RowIn (x ∷ rows) → length (x ∷ rows) ≤ 255 → sitesOf (x ∷ rows) ≤ 64 → Within (hung x k (hangs (i + 1) (k + siteCount (x .site)) rows i))
+pub within-hung : (i k : ℕ) (x : Row) (rows : List Row) → All RowIn (x ∷ rows) → length (x ∷ rows) ≤ rowsRoom - 1 → sitesOf (x ∷ rows) ≤ sitesRoom → Within (hung x k (hangs (i + 1) (k + siteCount (x .site)) rows i))
 unfolding sitesOf
 within-hung i k x rows (cons h a) l s =
     let u = hangs (i + 1) (k + siteCount (x .site)) rows i in
@@ -98,7 +97,7 @@ within-hung i k x rows (cons h a) l s =
     }
 
 -- a row without its wire, of at most 256
-pub within-seen : (i k : ℕ) (x : Row) (rows : List Row) → All RowIn (x ∷ rows) → length (x ∷ rows) ≤ 256 → sitesOf (x ∷ rows) ≤ 64 → Within (seen (x .site) (x .kind) k (hangs (i + 1) (k + siteCount (x .site)) rows i))
+pub within-seen : (i k : ℕ) (x : Row) (rows : List Row) → All RowIn (x ∷ rows) → length (x ∷ rows) ≤ rowsRoom → sitesOf (x ∷ rows) ≤ sitesRoom → Within (seen (x .site) (x .kind) k (hangs (i + 1) (k + siteCount (x .site)) rows i))
 unfolding sitesOf
 within-seen i k x rows (cons h a) l s =
     let u = hangs (i + 1) (k + siteCount (x .site)) rows i in
@@ -141,23 +140,23 @@ module _ {types : List Repeater} {rows : List Row} (ok : Accepted types rows) wh
   -- ---- of a placement, at any tree that is within
   module _ (p : Placement) (known : (j : ℕ) → p j ≤ length types) (t : Tree) (kept : Within (some t)) where
     -- no load is more than 51,200,000
-    pub load-within : load types p t ≤ mostLoad
+    pub load-within : loadOf types p t ≤ mostLoad
     load-within = load-range types (type-in ok) p known t (kept .inside) (kept .light) (kept .short) 0 (omega arith)
 
     -- the time is at least -3 × 10^15
     pub time-from : leastSlack ≤ℤ time types p t
-    time-from = let h = slack-low types (type-in ok) p known t (kept .inside) (kept .light) (kept .short) 0 (omega arith) in omega (times, ⊖-read (time types p t) (0 * load types p t))
+    time-from = let h = slack-low types (type-in ok) p known t (kept .inside) (kept .light) (kept .short) 0 (omega arith) in omega (times, ⊖-read (time types p t) (0 * loadOf types p t))
 
     -- and at most 10^12
     pub time-to : time types p t ≤ℤ mostSlack
-    time-to = let h = slack-top types (type-in ok) p known t (kept .inside) (kept .light) (kept .short) 0 (omega arith) in omega (times, ⊖-read (time types p t) (0 * load types p t))
+    time-to = let h = slack-top types (type-in ok) p known t (kept .inside) (kept .light) (kept .short) 0 (omega arith) in omega (times, ⊖-read (time types p t) (0 * loadOf types p t))
 
     -- the slack is at least -3 × 10^15
-    pub slack-from : leastSlack ≤ℤ time types p t ⊖ (driverOhms rows * load types p t)
+    pub slack-from : leastSlack ≤ℤ time types p t ⊖ (driverOhms rows * loadOf types p t)
     slack-from = slack-low types (type-in ok) p known t (kept .inside) (kept .light) (kept .short) (driverOhms rows) (driver-in ok)
 
     -- and at most 10^12
-    pub slack-to : time types p t ⊖ (driverOhms rows * load types p t) ≤ℤ mostSlack
+    pub slack-to : time types p t ⊖ (driverOhms rows * loadOf types p t) ≤ℤ mostSlack
     slack-to = slack-top types (type-in ok) p known t (kept .inside) (kept .light) (kept .short) (driverOhms rows) (driver-in ok)
 
   -- the load and the time of a candidate that is reached at such a tree
@@ -166,22 +165,3 @@ module _ {types : List Repeater} {rows : List Row} (ok : Accepted types rows) wh
       let p = c .place in
       let k = r .legal .known in
       rw (r .load, r .time) (load-within p k t w, time-from p k t w, time-to p k t w)
-
-  -- ---- of a legal placement, at a row
-  module _ (r : ℕ) (h : r < length rows) (t : Tree) (e : atRow rows r ≡ some t) (p : Placement) (legal : Legal types t p) where
-    -- a load is at most 51,200,000
-    pub accepted-load : load types p t ≤ mostLoad
-    accepted-load = load-within p (legal .known) t (within-tree r h t e)
-
-    -- the pair's time lies between -3 × 10^15 and 10^12
-    pub accepted-time : (c : Pair) → PairOf types t p c → (leastSlack ≤ℤ c .time) × (c .time ≤ℤ mostSlack)
-    accepted-time c q =
-        let z = least-unique (q .time) (time-is types p t) in
-        rw z (time-from p (legal .known) t (within-tree r h t e), time-to p (legal .known) t (within-tree r h t e))
-
-    -- the slack lies between -3 × 10^15 and 10^12
-    pub accepted-slack : (slack : ℤ) → IsSlack types p (driverOhms rows) t slack → (leastSlack ≤ℤ slack) × (slack ≤ℤ mostSlack)
-    unfolding IsSlack
-    accepted-slack slack q =
-        let z = least-unique q (slack-is types p (driverOhms rows) t) in
-        rw z (slack-from p (legal .known) t (within-tree r h t e), slack-to p (legal .known) t (within-tree r h t e))

@@ -7,12 +7,9 @@ use native.Mathlib.Omega.{arith}
 use native.Mathlib.Nat.{div-one, div-div-eq-div-mul, two-pow-succ}
 use lib.ListN.{length, getD}
 use lib.Seq.{take-all, ext-getD}
-use Rattle.rules.specs.Lists.{All, nil, cons, written}
+use Rattle.rules.specs.Lists.{All, nil, cons}
 use Rattle.rules.specs.Quantities.{placementRoom}
-use Rattle.rules.specs.Entries.{Entry}
 use Rattle.rules.specs.Placements.{markIn, marks}
-use Rattle.rules.specs.Answers.{Timing}
-use Rattle.rules.specs.Promises.{PlanOf}
 
 sixteen : (i : ℕ) → 2 ^ (4 * suc i) ≡ 16 * 2 ^ (4 * i)
 sixteen i = let e : 4 * suc i ≡ suc (suc (suc (suc (4 * i)))) = omega arith in rw e (omega (arith, two-pow-succ (4 * i), two-pow-succ (suc (4 * i)), two-pow-succ (suc (suc (4 * i))), two-pow-succ (suc (suc (suc (4 * i))))))
@@ -48,7 +45,3 @@ word-small (cons h t) (suc q) = word-small t q
 -- four 64-bit words that have the same marks are the same
 pub same-words : (v w : List ℕ) → length v ≡ placementRoom → length w ≡ placementRoom → All (λ x. x < 2 ^ 64) v → All (λ x. x < 2 ^ 64) w → marks v ≡ marks w → v ≡ w
 same-words v w h k f g e = ext-getD 0 v w (h ∙ sym k) (λ q l. same-word 16 (getD v q 0) (getD w q 0) (word-small f q) (word-small g q) (λ i m. sym (mark-at v q i h m) ∙ ap (λ p. p (16 * q + i)) e ∙ mark-at w q i k m))
-
--- so two plans of one net that return the same placement leave the same area behind
-pub same-placement : (es : List Entry) (before x y : List ℕ) (v : Timing) (f : PlanOf es before x v) (g : PlanOf es before y v) → All (λ w. w < 2 ^ 64) (f .words) → All (λ w. w < 2 ^ 64) (g .words) → marks (f .words) ≡ marks (g .words) → x ≡ y
-same-placement es before x y v f g h k e = f .after-is ∙ ap (λ w. written w before) (same-words (f .words) (g .words) (f .four) (g .four) h k e) ∙ sym (g .after-is)

@@ -132,7 +132,7 @@ pub fn work_cleared(loads: &[u32], times: &[i64], words: &[u64]) -> bool {
     marks_hold(words, 0, WORDS_AREA, false)
 }
 
-// Whether a work area holds its stamps: all of them, or those behind its room.
+// Whether a work area holds its stamps: all of them, or those past its room.
 pub fn work_kept(loads: &[u32], times: &[i64], words: &[u64], all: bool) -> bool {
     if all {
         if !pairs_kept(loads, times, 0, 0) {

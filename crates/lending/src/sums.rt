@@ -1,4 +1,5 @@
 // The sum over the words in use of word times position, from 1: so that a word changed or moved shows.
+use rooms::wide;
 
 // The sum of the words passed, and of all such sums: taken from the last word to the first, that is word times position.
 pub struct Sum {
@@ -12,10 +13,6 @@ fn added(sum: Sum, word: u64) -> Sum {
         words,
         sums: std::num::wrapping_add_u64(sum.sums, words),
     }
-}
-
-fn wide(word: u32) -> u64 {
-    word as u64
 }
 
 // A negative time goes round.
@@ -35,7 +32,7 @@ fn sum_words(area: &[u32], count: usize, before: Sum) -> Sum {
     let mut i = count;
     while 0 < i {
         i -= 1;
-        sum = added(sum, wide(area[i]));
+        sum = added(sum, wide::word(area[i]));
     }
     sum
 }
@@ -63,8 +60,8 @@ pub fn sum_of(
     dues: usize,
 ) -> u64 {
     let none = Sum { words: 0, sums: 0 };
-    let behind = sum_times(due, dues, none);
-    let middle = sum_words(rows, row_words, behind);
+    let after = sum_times(due, dues, none);
+    let middle = sum_words(rows, row_words, after);
     let all = sum_words(types, type_words, middle);
     all.sums
 }

@@ -7,14 +7,13 @@ use native.Mathlib.Nat.{mod-eq-of-lt, div-eq-of-lt, mul-mod-left, mul-assoc, lt-
 use native.Mathlib.Omega.{arith}
 use lib.Bits.{bitAnd, bitOr, bitXor, and-mask, xor-shr, xor-mod, and-shr, and-mod, or-zero-l, or-zero-r, and-zero-r, xor-add-and, and-le-l}
 use lib.Dec.{lit<}
-use lib.ListN.{length, getD, length-set}
-use lib.ListN.{set as store}
+use lib.ListN.{length, getD, set, length-set}
 use lib.Pow.{pow-add, pow-mono, shl-shr, shl-lt, ones-split, ones-lt, high, low}
 use lib.Seq.{getD-set-same, getD-set-other}
 use Rattle.rules.specs.Quantities.{placementRoom, sitesRoom}
 use Rattle.rules.specs.Placements.{markIn, marks}
-use Rattle.marks.specs.Marks.{marksInWord, marksEnd, set-unique, markIn-size, markIn-beyond, mark-or, marks-whole}
-use Rattle.laws.specs.Joining.{set, set-here, set-there}
+use Rattle.marks.specs.Marks.{marksInWord, marksEnd, with-mark-unique, markIn-size, markIn-beyond, mark-or, marks-whole}
+use Rattle.laws.specs.Joining.{withMark, with-mark-here, with-mark-there}
 
 -- ---- and, not, mark by mark
 pub mark-mask : (word i : ℕ) → bitAnd (word / 2 ^ (4 * i)) 15 ≡ markIn word i
@@ -94,29 +93,29 @@ module _ (word i : ℕ) (word-fits : word < 2 ^ 64) (i-fits : i < marksInWord) w
           (and-mask (markIn word k) 4 ∙ mod-eq-of-lt (markIn-size word k))
       by (no f) = markIn-beyond (masked word i) k masked-fits (omega (arith, f)) ∙ sym (markIn-beyond word k word-fits (omega (arith, f)))
 
-  pub with-marks : (m : ℕ) → m < marksEnd → markIn (bitOr (masked word i) (m * 2 ^ (4 * i))) ≡ set i m (markIn word)
+  pub with-marks : (m : ℕ) → m < marksEnd → markIn (bitOr (masked word i) (m * 2 ^ (4 * i))) ≡ withMark i m (markIn word)
   with-marks m m-fits =
-      set-unique i m (markIn word) (markIn (bitOr (masked word i) (m * 2 ^ (4 * i))))
+      with-mark-unique i m (markIn word) (markIn (bitOr (masked word i) (m * 2 ^ (4 * i))))
       (mark-or (masked word i) (m * 2 ^ (4 * i)) i ∙ rw (masked-there, moved-there m i m-fits) (or-zero-l m))
       (λ k n. mark-or (masked word i) (m * 2 ^ (4 * i)) k ∙ rw (masked-else k n, moved-else m i k m-fits n) (or-zero-r (markIn word k)))
 
 -- ---- four words, one of them stored
-module _ (words : List ℕ) (j m word : ℕ) (four : length words ≡ placementRoom) (j-fits : j < sitesRoom) (with-m : markIn word ≡ set (j % 16) m (markIn (getD words (j / 16) 0))) where
-  stored-four : length (store words (j / 16) word) ≡ placementRoom
+module _ (words : List ℕ) (j m word : ℕ) (four : length words ≡ placementRoom) (j-fits : j < sitesRoom) (with-m : markIn word ≡ withMark (j % 16) m (markIn (getD words (j / 16) 0))) where
+  stored-four : length (set words (j / 16) word) ≡ placementRoom
   stored-four = simp length-set four
 
-  stored-word : getD (store words (j / 16) word) (j / 16) 0 ≡ word
+  stored-word : getD (set words (j / 16) word) (j / 16) 0 ≡ word
   stored-word = getD-set-same words (j / 16) word 0 (omega arith)
 
-  stored-there : marks (store words (j / 16) word) j ≡ m
-  stored-there = marks-whole (store words (j / 16) word) j stored-four ∙ rw (stored-word, with-m) (set-here (j % 16) m (markIn (getD words (j / 16) 0)))
+  stored-there : marks (set words (j / 16) word) j ≡ m
+  stored-there = marks-whole (set words (j / 16) word) j stored-four ∙ rw (stored-word, with-m) (with-mark-here (j % 16) m (markIn (getD words (j / 16) 0)))
 
-  stored-else : (s : ℕ) → ¬ (s ≡ j) → marks (store words (j / 16) word) s ≡ marks words s
-  stored-else s n = marks-whole (store words (j / 16) word) s stored-four ∙ by (ℕ-discrete (j / 16) (s / 16)) ∙ sym (marks-whole words s four)
+  stored-else : (s : ℕ) → ¬ (s ≡ j) → marks (set words (j / 16) word) s ≡ marks words s
+  stored-else s n = marks-whole (set words (j / 16) word) s stored-four ∙ by (ℕ-discrete (j / 16) (s / 16)) ∙ sym (marks-whole words s four)
     where
-      by : Dec (j / 16 ≡ s / 16) → markIn (getD (store words (j / 16) word) (s / 16) 0) (s % 16) ≡ markIn (getD words (s / 16) 0) (s % 16)
-      by (yes e) = rw (← e, stored-word, with-m) (set-there (j % 16) m (markIn (getD words (j / 16) 0)) (s % 16) (λ q. n (omega arith)))
+      by : Dec (j / 16 ≡ s / 16) → markIn (getD (set words (j / 16) word) (s / 16) 0) (s % 16) ≡ markIn (getD words (s / 16) 0) (s % 16)
+      by (yes e) = rw (← e, stored-word, with-m) (with-mark-there (j % 16) m (markIn (getD words (j / 16) 0)) (s % 16) (λ q. n (omega arith)))
       by (no f) = rw (getD-set-other words (j / 16) (s / 16) word 0 (λ q. f (sym q)))
 
-  pub stored-marks : marks (store words (j / 16) word) ≡ set j m (marks words)
-  stored-marks = set-unique j m (marks words) (marks (store words (j / 16) word)) stored-there stored-else
+  pub stored-marks : marks (set words (j / 16) word) ≡ withMark j m (marks words)
+  stored-marks = with-mark-unique j m (marks words) (marks (set words (j / 16) word)) stored-there stored-else

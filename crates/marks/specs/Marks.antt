@@ -1,6 +1,6 @@
 -- What is true of the marks that words hold. Assumes nothing.
 use mathlib.Core.Path.{_≡_, refl, sym, ap, _∙_, fun-ext}
-use mathlib.Core.List.{List, [], _∷_, _++_}
+use mathlib.Core.List.{List, [], _∷_}
 use Prim.Native.Nat.{ℕ, zero, suc, _*_, _/_, _%_, _^_, _≤_, _<_}
 use native.Mathlib.Decide.{ℕ-discrete}
 use native.Mathlib.Nat.{mod-lt, div-eq-of-lt, lt-of-lt-of-le}
@@ -8,10 +8,10 @@ use native.Mathlib.Omega.{arith}
 use lib.Bits.{bitOr, or-shr, or-mod}
 use lib.ListN.{length, getD, take, length-take, List·getD-eq-default}
 use lib.Pow.{pow-pos, pow-mono}
-use lib.Seq.{getD-take, take-all, take-append-le}
+use lib.Seq.{getD-take, take-all}
 use Rattle.rules.specs.Quantities.{placementRoom, sitesRoom}
 use Rattle.rules.specs.Placements.{Placement, markIn, marks}
-use Rattle.laws.specs.Joining.{set, join, set-here, set-there}
+use Rattle.laws.specs.Joining.{withMark, joinMarks, with-mark-here, with-mark-there}
 
 -- how many marks a word has, and the first number that four bits do not hold
 abbrev pub marksInWord : ℕ
@@ -21,12 +21,12 @@ abbrev pub marksEnd : ℕ
 marksEnd = 16
 
 -- what has m at j and agrees with p elsewhere is p with m at j
-pub set-unique : (j m : ℕ) (p q : Placement) → q j ≡ m → ((s : ℕ) → ¬ (s ≡ j) → q s ≡ p s) → q ≡ set j m p
-set-unique j m p q there else = fun-ext (λ s. by s (ℕ-discrete s j))
+pub with-mark-unique : (j m : ℕ) (p q : Placement) → q j ≡ m → ((s : ℕ) → ¬ (s ≡ j) → q s ≡ p s) → q ≡ withMark j m p
+with-mark-unique j m p q there else = fun-ext (λ s. by s (ℕ-discrete s j))
   where
-    by : (s : ℕ) → Dec (s ≡ j) → q s ≡ set j m p s
-    by s (yes e) = rw e (there ∙ sym (set-here j m p))
-    by s (no f) = else s f ∙ sym (set-there j m p s f)
+    by : (s : ℕ) → Dec (s ≡ j) → q s ≡ withMark j m p s
+    by s (yes e) = rw e (there ∙ sym (with-mark-here j m p))
+    by s (no f) = else s f ∙ sym (with-mark-there j m p s f)
 
 -- ---- the marks of a word
 pub markIn-size : (word i : ℕ) → markIn word i < marksEnd
@@ -47,10 +47,6 @@ unfolding markIn
 mark-or a b i = ap (λ (x : ℕ). x % 2 ^ 4) (or-shr a b (4 * i)) ∙ or-mod (a / 2 ^ (4 * i)) (b / 2 ^ (4 * i)) 4
 
 -- ---- the marks of a placement's words
-pub marks-size : (words : List ℕ) (j : ℕ) → marks words j < marksEnd
-unfolding marks
-marks-size words j = markIn-size (getD (take placementRoom words) (j / 16) 0) (j % 16)
-
 -- of a site that a placement has room for, the mark is in one of the words as they stand
 pub marks-in : (words : List ℕ) (j : ℕ) → j < sitesRoom → marks words j ≡ markIn (getD words (j / 16) 0) (j % 16)
 unfolding marks
@@ -65,11 +61,6 @@ marks-whole words j e = ap (λ (room : List ℕ). markIn (getD room (j / 16) 0) 
 pub marks-beyond : (words : List ℕ) (j : ℕ) → sitesRoom ≤ j → marks words j ≡ 0
 unfolding marks
 marks-beyond words j h = ap (λ (word : ℕ). markIn word (j % 16)) (List·getD-eq-default (take placementRoom words) 0 {n = j / 16} (omega (arith, length-take placementRoom words))) ∙ markIn-zero (j % 16)
-
--- of a longer area the part beyond is not read
-pub marks-front : (words beyond : List ℕ) → length words ≡ placementRoom → marks (words ++ beyond) ≡ marks words
-unfolding marks
-marks-front words beyond e = fun-ext (λ j. ap (λ (room : List ℕ). markIn (getD room (j / 16) 0) (j % 16)) (take-append-le placementRoom words beyond (omega arith)))
 
 zero-word : (n : ℕ) → _≡_ {A = ℕ} (getD (0 ∷ 0 ∷ 0 ∷ 0 ∷ []) n 0) 0
 zero-word zero = refl
@@ -95,6 +86,6 @@ module _ (a b : List ℕ) (a-four : length a ≡ placementRoom) (b-four : length
   or-word (suc (suc (suc zero))) = refl
   or-word (suc (suc (suc (suc n)))) = rw (List·getD-eq-default a 0 {n = suc (suc (suc (suc n)))} (omega arith), List·getD-eq-default b 0 {n = suc (suc (suc (suc n)))} (omega arith))
 
-  pub joined-marks : marks (orWords a b) ≡ join (marks a) (marks b)
-  unfolding join
+  pub joined-marks : marks (orWords a b) ≡ joinMarks (marks a) (marks b)
+  unfolding joinMarks
   joined-marks = fun-ext (λ j. marks-whole (orWords a b) j refl ∙ rw (or-word (j / 16), marks-whole a j a-four, marks-whole b j b-four) (mark-or (getD a (j / 16) 0) (getD b (j / 16) 0) (j % 16)))

@@ -2,6 +2,7 @@
 use mathlib.Core.Path.{_≡_, refl, sym, ap, _∙_}
 use mathlib.Core.Bool.{Bool, true, false, _||_, true≢false}
 use mathlib.Core.List.{List}
+use mathlib.Core.Option.{orElse}
 use Prim.Native.Nat.{ℕ, suc, _+_, _<_, min}
 use native.Mathlib.Omega.{arith}
 use lib.Dec.{ltb}
@@ -12,6 +13,7 @@ use borrow.Author.Tests.{lt-ltb, le-ltb, ltb-true, ltb-false}
 use Rattle.rules.specs.Quantities.{mostOhms, mostFemtofarads, mostOwn, earliestDue, latestDue, mostParent, mostSite}
 use Rattle.rules.specs.Entries.{Entry, type, driver, point, sink, malformed, beyond, rowsOf}
 use Rattle.rules.specs.Refusals.{some?, misplaced, outOfRange, tooMany, orphan, lineRefusal}
+use Rattle.rooms.specs.Cap.{wordCap}
 use Rattle.text.specs.Stretches.{either, absurd}
 use Rattle.text.specs.Numbers.{cap, cappedTime}
 use Rattle.entries.specs.Lines.{word, capped}
@@ -28,13 +30,13 @@ or-right true b e = absurd (true≢false e)
 or-right false b e = e
 
 -- ---- words
-word-test : (most n : ℕ) → most < 2_000_000_000 → ltb most (word n) ≡ ltb most n
+word-test : (most n : ℕ) → most < wordCap → ltb most (word n) ≡ ltb most n
 word-test most n h =
     either (ltb most n)
     (λ t. lt-ltb most (word n) (omega (arith, ltb-true most n t)) ∙ sym t)
     (λ f. le-ltb most (word n) (omega (arith, ltb-false most n f)) ∙ sym f)
 
-word-kept : (most n : ℕ) → most < 2_000_000_000 → ltb most n ≡ false → word n ≡ n
+word-kept : (most n : ℕ) → most < wordCap → ltb most n ≡ false → word n ≡ n
 word-kept most n h f = omega (arith, ltb-false most n f)
 
 -- ---- times
@@ -136,6 +138,7 @@ cut-in beyond e = refl
 
 -- ---- refusals
 out-alike : (f m m′ p p′ : Bool) (place : ℕ) → firstOf f true m p place ≡ firstOf f true m′ p′ place
+unfolding orElse
 out-alike true m m′ p p′ place = refl
 out-alike false m m′ p p′ place = refl
 

@@ -1,5 +1,5 @@
 -- What a line reader has learnt, field by field: E is the entry of the line, and `next` what is done with a field's number and the
--- fields behind it. Then the entry of each kind of line, and the line that states it. Assumes nothing.
+-- fields after it. Then the entry of each kind of line, and the line that states it. Assumes nothing.
 use mathlib.Core.Path.{_≡_, refl, sym, ap, _∙_}
 use mathlib.Core.List.{List, [], _∷_}
 use mathlib.Core.Option.{Option, none, some}
@@ -14,7 +14,7 @@ use mir.Val.{toZ, ofZ}
 use Rattle.rules.specs.declared.Pin.{Pin}
 use Rattle.rules.specs.declared.Refusal.the-variants.{Form}
 use Rattle.rules.specs.Entries.{Entry, type, driver, point, sink, malformed}
-use Rattle.rules.specs.Text.{parted, number, signed, after, end, _>>=_, typeLine, driverLine, pointLine, sinkLine, lettered, lineOf}
+use Rattle.rules.specs.Text.{parted, number, signed, after, end, nextField, typeLine, driverLine, pointLine, sinkLine, lettered, lineOf}
 use Rattle.text.specs.declared.Field.{Field}
 use Rattle.text.specs.declared.Field.the-variants.{Number, Bad}
 use Rattle.text.specs.declared.SignedField.{SignedField}
@@ -22,16 +22,17 @@ use Rattle.text.specs.declared.SignedField.the-variants.{Number as Time, Bad as
 use Rattle.text.specs.Stretches.{tab, absurd}
 use Rattle.text.specs.Numbers.{cap, cappedTime, fieldOf, timeOf, number-empty, signed-empty, mag-minus, bits-back}
 use Rattle.text.specs.Fields.{fieldAt, nextAt, fieldsFrom, NumberAt, TimeAt, field-read, fields-start, fields-some, fields-end, fields-over}
-use Rattle.checks.specs.declared.Repeater.{Repeater}
+use Rattle.repeaters.specs.declared.Buffer.{Buffer}
+use Rattle.repeaters.specs.Repeaters.{bufferOf}
 use Rattle.checks.specs.declared.Wire.{Wire}
 use Rattle.checks.specs.declared.Line.{Line}
 use Rattle.checks.specs.declared.Line.the-variants.{Repeater as TypeLine, Driver as DriverLine, Point as PointLine, Sink as SinkLine, Refused as RefusedLine}
-use Rattle.entries.specs.Lines.{word, repeaterOf, wireOf, pinOf, capped, lineFor, letterOf}
+use Rattle.entries.specs.Lines.{word, wireOf, pinOf, capped, lineFor, letterOf}
 
 -- ---- one field
 -- a malformed field, or one that is missing
 pub read-bad : (E : Entry) (next : ℕ → List (List ℕ) → Entry) (line : List ℕ) (at : ℕ) (r : Field)
-    → E ≡ _>>=_ number next (fieldsFrom line at) → NumberAt line at r → r ≡ Bad → E ≡ malformed
+    → E ≡ nextField number next (fieldsFrom line at) → NumberAt line at r → r ≡ Bad → E ≡ malformed
 read-bad E next line at r e h b = e ∙ field-read number next line at (number-empty [] refl) ∙ by (number (fieldAt line at)) (sym (h .value) ∙ b)
   where
     by : (o : Option ℕ) → fieldOf o (nextAt line at) ≡ Bad → after o next (fieldsFrom line (nextAt line at)) ≡ malformed
@@ -39,7 +40,7 @@ read-bad E next line at r e h b = e ∙ field-read number next line at (number-e
     by (some m) f = let z : _≡_ {A = ℕ} 0 1 = cc in absurd (omega arith)
 
 pub read-bad-time : (E : Entry) (next : ℤ → List (List ℕ) → Entry) (line : List ℕ) (at : ℕ) (r : SignedField)
-    → E ≡ _>>=_ signed next (fieldsFrom line at) → TimeAt line at r → r ≡ BadTime → E ≡ malformed
+    → E ≡ nextField signed next (fieldsFrom line at) → TimeAt line at r → r ≡ BadTime → E ≡ malformed
 read-bad-time E next line at r e h b = e ∙ field-read signed next line at (signed-empty [] refl) ∙ by (signed (fieldAt line at)) (sym (h .value) ∙ b)
   where
     by : (o : Option ℤ) → timeOf o (nextAt line at) ≡ BadTime → after o next (fieldsFrom line (nextAt line at)) ≡ malformed
@@ -50,9 +51,9 @@ read-bad-time E next line at r e h b = e ∙ field-read signed next line at (sig
 pub inside : (line : List ℕ) (at : ℕ) (r : Field) (n to : ℕ) → NumberAt line at r → r ≡ Number n to → to ≤ length line + 1
 inside line at r n to h b = rw b at (h .within)
 
--- what was read is the field's number, cut, and the fields behind it are still to read
+-- what was read is the field's number, cut, and the fields after it are still to read
 pub read-number : (E : Entry) (next : ℕ → List (List ℕ) → Entry) (line : List ℕ) (at : ℕ) (r : Field) (n to : ℕ)
-    → E ≡ _>>=_ number next (fieldsFrom line at) → NumberAt line at r → r ≡ Number n to → (m : ℕ) × (n ≡ min m cap) × (E ≡ next m (fieldsFrom line to))
+    → E ≡ nextField number next (fieldsFrom line at) → NumberAt line at r → r ≡ Number n to → (m : ℕ) × (n ≡ min m cap) × (E ≡ next m (fieldsFrom line to))
 read-number E next line at r n to e h b = by (number (fieldAt line at)) (sym (h .value) ∙ b) (e ∙ field-read number next line at (number-empty [] refl))
   where
     by : (o : Option ℕ) → fieldOf o (nextAt line at) ≡ Number n to → E ≡ after o next (fieldsFrom line (nextAt line at))
@@ -63,7 +64,7 @@ read-number E next line at r n to e h b = by (number (fieldAt line at)) (sym (h 
         (m, cc, g ∙ ap (λ (k : ℕ). next m (fieldsFrom line k)) i)
 
 pub read-time : (E : Entry) (next : ℤ → List (List ℕ) → Entry) (line : List ℕ) (at : ℕ) (r : SignedField) (n : ℤ) (to : ℕ)
-    → E ≡ _>>=_ signed next (fieldsFrom line at) → TimeAt line at r → r ≡ Time n to → (m : ℤ) × (n ≡ cappedTime m) × (E ≡ next m (fieldsFrom line to))
+    → E ≡ nextField signed next (fieldsFrom line at) → TimeAt line at r → r ≡ Time n to → (m : ℤ) × (n ≡ cappedTime m) × (E ≡ next m (fieldsFrom line to))
 read-time E next line at r n to e h b = by (signed (fieldAt line at)) (sym (h .value) ∙ b) (e ∙ field-read signed next line at (signed-empty [] refl))
   where
     by : (o : Option ℤ) → timeOf o (nextAt line at) ≡ Time n to → E ≡ after o next (fieldsFrom line (nextAt line at))
@@ -80,15 +81,15 @@ read-over E e line at g h = g ∙ fields-over e line at h
 pub read-end : (E e : Entry) (line : List ℕ) (at : ℕ) → E ≡ end e (fieldsFrom line at) → length line < at → E ≡ e
 read-end E e line at g h = g ∙ fields-end e line at h
 
--- ---- what is done behind each field of a line
+-- ---- what is done after each field of a line
 abbrev pub type₃ : ℕ → ℕ → ℕ → List (List ℕ) → Entry
 type₃ input resistance own = end (type input resistance own)
 
 abbrev pub type₂ : ℕ → ℕ → List (List ℕ) → Entry
-type₂ input resistance = _>>=_ number (type₃ input resistance)
+type₂ input resistance = nextField number (type₃ input resistance)
 
 abbrev pub type₁ : ℕ → List (List ℕ) → Entry
-type₁ input = _>>=_ number (type₂ input)
+type₁ input = nextField number (type₂ input)
 
 abbrev pub driver₁ : ℕ → List (List ℕ) → Entry
 driver₁ resistance = end (driver resistance)
@@ -98,13 +99,13 @@ abbrev pub Rest : Type 0
 Rest = (parent resistance capacitance site : ℕ) → List (List ℕ) → Entry
 
 abbrev pub wire₃ : Rest → ℕ → ℕ → ℕ → List (List ℕ) → Entry
-wire₃ next parent resistance capacitance = _>>=_ number (next parent resistance capacitance)
+wire₃ next parent resistance capacitance = nextField number (next parent resistance capacitance)
 
 abbrev pub wire₂ : Rest → ℕ → ℕ → List (List ℕ) → Entry
-wire₂ next parent resistance = _>>=_ number (wire₃ next parent resistance)
+wire₂ next parent resistance = nextField number (wire₃ next parent resistance)
 
 abbrev pub wire₁ : Rest → ℕ → List (List ℕ) → Entry
-wire₁ next parent = _>>=_ number (wire₂ next parent)
+wire₁ next parent = nextField number (wire₂ next parent)
 
 abbrev pub point₄ : Rest
 point₄ parent resistance capacitance site = end (point parent resistance capacitance site)
@@ -113,24 +114,24 @@ abbrev pub sink₆ : (parent resistance capacitance site pin : ℕ) → ℤ → 
 sink₆ parent resistance capacitance site pin due = end (sink parent resistance capacitance site pin due)
 
 abbrev pub sink₅ : (parent resistance capacitance site pin : ℕ) → List (List ℕ) → Entry
-sink₅ parent resistance capacitance site pin = _>>=_ signed (sink₆ parent resistance capacitance site pin)
+sink₅ parent resistance capacitance site pin = nextField signed (sink₆ parent resistance capacitance site pin)
 
 abbrev pub sink₄ : Rest
-sink₄ parent resistance capacitance site = _>>=_ number (sink₅ parent resistance capacitance site)
+sink₄ parent resistance capacitance site = nextField number (sink₅ parent resistance capacitance site)
 
-pub type-is : (fields : List (List ℕ)) → typeLine fields ≡ _>>=_ number type₁ fields
+pub type-is : (fields : List (List ℕ)) → typeLine fields ≡ nextField number type₁ fields
 unfolding typeLine
 type-is fields = refl
 
-pub driver-is : (fields : List (List ℕ)) → driverLine fields ≡ _>>=_ number driver₁ fields
+pub driver-is : (fields : List (List ℕ)) → driverLine fields ≡ nextField number driver₁ fields
 unfolding driverLine
 driver-is fields = refl
 
-pub point-is : (fields : List (List ℕ)) → pointLine fields ≡ _>>=_ number (wire₁ point₄) fields
+pub point-is : (fields : List (List ℕ)) → pointLine fields ≡ nextField number (wire₁ point₄) fields
 unfolding pointLine
 point-is fields = refl
 
-pub sink-is : (fields : List (List ℕ)) → sinkLine fields ≡ _>>=_ number (wire₁ sink₄) fields
+pub sink-is : (fields : List (List ℕ)) → sinkLine fields ≡ nextField number (wire₁ sink₄) fields
 unfolding sinkLine
 sink-is fields = refl
 
@@ -141,8 +142,8 @@ bad-made place E e = rw e
 word-cut : (n m : ℕ) → n ≡ min m cap → word n ≡ word m
 word-cut n m e = omega arith
 
-pub type-made : (place : ℕ) (E : Entry) (a b c n₁ n₂ n₃ : ℕ) (r : Repeater) → E ≡ type a b c → n₁ ≡ min a cap → n₂ ≡ min b cap → n₃ ≡ min c cap
-    → r ≡ repeaterOf (word n₁) (word n₂) (word n₃) → TypeLine r ≡ lineFor place (capped E)
+pub type-made : (place : ℕ) (E : Entry) (a b c n₁ n₂ n₃ : ℕ) (r : Buffer) → E ≡ type a b c → n₁ ≡ min a cap → n₂ ≡ min b cap → n₃ ≡ min c cap
+    → r ≡ bufferOf (word n₁) (word n₂) (word n₃) → TypeLine r ≡ lineFor place (capped E)
 type-made place E a b c n₁ n₂ n₃ r e p q s g = rw (e, g, word-cut n₁ a p, word-cut n₂ b q, word-cut n₃ c s)
 
 pub driver-made : (place : ℕ) (E : Entry) (a n w : ℕ) → E ≡ driver a → n ≡ min a cap → w ≡ word n → DriverLine (record { 0 = w }) ≡ lineFor place (capped E)

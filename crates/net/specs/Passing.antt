@@ -1,8 +1,8 @@
--- The checks of a line by number are those of the refusal list, behind entries that the areas hold. Assumes nothing.
+-- The checks of a line by number are those of the refusal list, after entries that the areas hold. Assumes nothing.
 use mathlib.Core.Path.{_≡_, refl, sym, ap, _∙_}
 use mathlib.Core.Bool.{Bool, true, false, not, _&&_, _||_}
 use mathlib.Core.List.{List, [], _∷_, _++_}
-use mathlib.Core.Option.{Option, none, some}
+use mathlib.Core.Option.{Option, none, some, orElse}
 use Prim.Native.Nat.{ℕ, zero, suc, _+_, _*_}
 use native.Mathlib.Omega.{arith}
 use lib.Dec.{ltb, leb, eqb, leb·suc-suc}
@@ -10,19 +10,21 @@ use lib.IntN.{ℤ}
 use lib.ListN.{length, take}
 use lib.Seq.{getD-take}
 use borrow.Author.Tests.{lt-ltb, le-ltb, ne-eqb, ltb-true}
+use Rattle.rules.specs.Tables.{rowWords, rowTable}
+use Rattle.rules.specs.Quantities.{rowsRoom, sitesRoom}
 use Rattle.rules.specs.declared.Row.{Row}
 use Rattle.rules.specs.declared.Refusal.{Refusal}
 use Rattle.rules.specs.declared.Checking.the-variants.{Accepted}
 use Rattle.rules.specs.declared.Checking.the-variants.{Refused as NotAccepted}
 use Rattle.rules.specs.Entries.{Entry, type, driver, point, sink, malformed, beyond, rowsOf, sitesOf}
 use Rattle.rules.specs.Refusals.{some?, misplaced, outOfRange, tooMany, orphan, noParent, lineRefusal, firstRefusal}
-use Rattle.rules.specs.Promises.{rowTable}
 use Rattle.text.specs.Stretches.{either, absurd}
 use Rattle.checks.specs.declared.Passed.{Passed}
-use Rattle.entries.specs.Lines.{repeaterOf, wireOf, pinOf, lineFor}
+use Rattle.repeaters.specs.Repeaters.{bufferOf}
+use Rattle.entries.specs.Lines.{wireOf, pinOf, lineFor}
 use Rattle.checks.specs.Checks.{checking, firstOf, noParentIn, placeAt, checkOf}
 use Rattle.entries.specs.Held.{Holds}
-use Rattle.ending.specs.BelowLaws.{sink-word, word-behind}
+use Rattle.ending.specs.BelowLaws.{sink-word, word-next}
 
 -- ---- refused or accepted
 pub accepted-none : (o : Option Refusal) → checking o ≡ Accepted → o ≡ none
@@ -41,6 +43,7 @@ pub record NoneOf (form range room parent : Bool) : Type 0 where
   pub parent-not : parent ≡ false
 
 pub none-of : (f r m p : Bool) (place : ℕ) → firstOf f r m p place ≡ none → NoneOf f r m p
+unfolding orElse
 none-of true r m p place e = let z : _≡_ {A = ℕ} 0 1 = cc in absurd (omega arith)
 none-of false true m p place e = let z : _≡_ {A = ℕ} 0 1 = cc in absurd (omega arith)
 none-of false false true p place e = let z : _≡_ {A = ℕ} 0 1 = cc in absurd (omega arith)
@@ -70,13 +73,13 @@ no-parent-words : (rows : List Row) (p : ℕ) → noParent rows p ≡ noParentIn
 unfolding noParent rowTable
 no-parent-words [] p = rw (le-ltb p 0 (omega arith))
 no-parent-words (x ∷ rows) zero = rw (lt-ltb 0 (suc (length rows)) (omega arith)) (sink-word (x .kind))
-no-parent-words (x ∷ rows) (suc p) = rw (word-behind p, leb·suc-suc (suc p) (length rows)) (no-parent-words rows p)
+no-parent-words (x ∷ rows) (suc p) = rw (word-next p, leb·suc-suc (suc p) (length rows)) (no-parent-words rows p)
 
 -- the same words at the start of an area
-pub no-parent-in : (rows : List Row) (words : List ℕ) (n p : ℕ) → length rows ≡ n → rowTable rows ≡ take (6 * n) words → noParentIn words n p ≡ noParent rows p
+pub no-parent-in : (rows : List Row) (words : List ℕ) (n p : ℕ) → length rows ≡ n → rowTable rows ≡ take (rowWords * n) words → noParentIn words n p ≡ noParent rows p
 no-parent-in rows words n p e g =
     sym (no-parent-words rows p ∙ rw (g, e) (either (ltb p n)
-    (λ t. rw (t, getD-take (6 * n) words (6 * p) 0 (omega (arith, ltb-true))))
+    (λ t. rw (t, getD-take (rowWords * n) words (rowWords * p) 0 (omega (arith, ltb-true))))
     (λ f. rw f)))
 
 -- ---- the check of a line is the refusal list's
@@ -87,11 +90,11 @@ module _ (before : List Entry) (types rows : List ℕ) (due : List ℤ) (n : Pas
   place-same : placeAt n ≡ length before + 1
   place-same = omega (arith, h .lines-counted)
 
-  many-same : (site : ℕ) → (leb 256 (n .rows) || (eqb site 1 && leb 64 (n .sites))) ≡ (leb 256 (length (rowsOf before)) || (eqb site 1 && leb 64 (sitesOf (rowsOf before))))
+  many-same : (site : ℕ) → (leb rowsRoom (n .rows) || (eqb site 1 && leb sitesRoom (n .sites))) ≡ (leb rowsRoom (length (rowsOf before)) || (eqb site 1 && leb sitesRoom (sitesOf (rowsOf before))))
   many-same site = rw (h .rows-counted, h .sites-counted)
 
   pub check-same : (e : Entry) → checkOf rows n (lineFor (length before + 1) e) ≡ checking (lineRefusal before e)
-  unfolding lineRefusal misplaced outOfRange tooMany orphan repeaterOf wireOf pinOf
+  unfolding lineRefusal misplaced outOfRange tooMany orphan bufferOf wireOf pinOf orElse
   check-same (type input resistance own) =
       same-of _ _ (outOfRange (type input resistance own)) (outOfRange (type input resistance own)) _ _ false false _ _ (some-rows (rowsOf before) (n .rows) (h .rows-counted)) refl (ap (leb 4) (sym (h .types-counted))) refl place-same
   check-same (driver resistance) = same-of _ _ (outOfRange (driver resistance)) (outOfRange (driver resistance)) false false false false _ _ (some-rows (rowsOf before) (n .rows) (h .rows-counted)) refl refl refl place-same
@@ -104,9 +107,9 @@ module _ (before : List Entry) (types rows : List ℕ) (due : List ℤ) (n : Pas
 
 -- ---- the first refusal, a line at a time
 pub first-refused : (before : List Entry) (e : Entry) (rest : List Entry) (x : Refusal) → lineRefusal before e ≡ some x → firstRefusal before (e ∷ rest) ≡ some x
-unfolding firstRefusal
+unfolding firstRefusal orElse
 first-refused before e rest x h = rw h
 
 pub first-passed : (before : List Entry) (e : Entry) (rest : List Entry) → lineRefusal before e ≡ none → firstRefusal before (e ∷ rest) ≡ firstRefusal (before ++ (e ∷ [])) rest
-unfolding firstRefusal
+unfolding firstRefusal orElse
 first-passed before e rest h = rw h

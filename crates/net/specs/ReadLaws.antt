@@ -2,7 +2,7 @@
 -- Assumes nothing.
 use mathlib.Core.Path.{_≡_, refl, sym, ap, _∙_}
 use mathlib.Core.List.{List, [], _∷_, _++_, append-assoc, append-nil}
-use mathlib.Core.Option.{Option, none, some}
+use mathlib.Core.Option.{Option, none, some, orElse}
 use Prim.Native.Nat.{ℕ, suc, _+_, _-_, _≤_, _<_}
 use native.Mathlib.Omega.{arith}
 use lib.Dec.{ltb}
@@ -15,7 +15,8 @@ use Rattle.rules.specs.declared.Refusal.the-variants.{Form}
 use Rattle.rules.specs.Entries.{Entry, malformed, typesOf, rowsOf, sitesOf}
 use Rattle.rules.specs.Text.{parted, lineOf, linesOf, textEntries}
 use Rattle.rules.specs.Refusals.{lineRefusal, lastRefusal, firstRefusal, misplaced}
-use Rattle.rules.specs.Promises.{typeTable, rowTable, dueTable, Settled}
+use Rattle.rules.specs.Promises.{Settled}
+use Rattle.rules.specs.Tables.{typeTable, rowTable, dueTable}
 use Rattle.text.specs.Stretches.{tab, lineFeed, lead, stretch, lead-le, either, absurd, parted-last, parted-more}
 use Rattle.checks.specs.declared.Passed.{Passed}
 use Rattle.ending.specs.declared.Taking.{Taking}
@@ -23,7 +24,7 @@ use Rattle.ending.specs.declared.Taking.the-variants.{Taken, Refused}
 use Rattle.checks.specs.Checks.{placeAt}
 use Rattle.entries.specs.Held.{Holds}
 use Rattle.ending.specs.Below.{Finished}
-use Rattle.net.specs.Steps.{EntryTaken, LineTaken, AllBehind, linesFrom, Reaches}
+use Rattle.net.specs.Steps.{EntryTaken, LineTaken, AllAfter, linesFrom, Reaches}
 use Rattle.net.specs.Passing.{first-refused, first-passed}
 
 -- ---- lines by place
@@ -51,16 +52,16 @@ module _ (text : List ℕ) (at to : ℕ) (inside : at < length text) (to-is : to
       let whole : lead lineFeed s ≡ length s = omega (arith, length-drop at text) in
       rw (parted-last lineFeed s whole) (lines-last s (omega (arith, length-drop at text)))
 
-  -- the next line, and those behind its line feed
+  -- the next line, and those after its line feed
   pub lines-next : to < length text → linesFrom text at ≡ lineOf (parted tab (take (to - at) (drop at text))) ∷ linesFrom text (to + 1)
   lines-next h =
       let s = drop at text in
       let k : lead lineFeed s ≡ to - at = omega arith in
       let more = parted-more lineFeed s (omega (arith, length-drop at text)) in
-      let behind : drop (suc (lead lineFeed s)) s ≡ drop (to + 1) text =
+      let rest-is : drop (suc (lead lineFeed s)) s ≡ drop (to + 1) text =
       drop-drop (suc (lead lineFeed s)) at text ∙ ap (λ (j : ℕ). drop j text) (next k) in
       ap linesOf more ∙ lines-shape (stretch lineFeed s) (parted lineFeed (drop (suc (lead lineFeed s)) s)) (drop (suc (lead lineFeed s)) s) refl
-      ∙ rw (behind, k)
+      ∙ rw (rest-is, k)
     where
       next : lead lineFeed (drop at text) ≡ to - at → at + suc (lead lineFeed (drop at text)) ≡ to + 1
       next k = omega arith
@@ -87,11 +88,11 @@ pub reach-start : (text types rows : List ℕ) (due : List ℤ) → Reaches text
 unfolding textEntries
 reach-start text types rows due = record { before = []; held = holds-nothing types rows due; all = refl; first = refl }
 
--- ---- a line behind those that have passed
+-- ---- a line after those that have passed
 module _ (text : List ℕ) (at to : ℕ) (types rows : List ℕ) (due : List ℤ) (n : Passed) (s : Reaches text at types rows due n) (inside : at < length text)
     (to-is : to ≡ at + lead lineFeed (drop at text)) where
   pub reach-unended : (place : ℕ) → to ≡ length text → place ≡ placeAt n → firstRefusal [] (textEntries text) ≡ some (Form place)
-  unfolding lineRefusal misplaced
+  unfolding lineRefusal misplaced orElse
   reach-unended place e p =
       let here : length (s .before) + 1 ≡ place = omega (arith, s .held .lines-counted) in
       s .first ∙ ap (firstRefusal (s .before)) (lines-unended text at to inside to-is e) ∙ first-refused (s .before) malformed [] (Form place) (rw here)
@@ -126,7 +127,7 @@ lines-over text at h = rw (drop-of-length-le text {i = at} h)
 
 -- what finishing says of the entries that have passed, which are all
 pub all-passed : (first before es : List Entry) (o : Option Refusal) (r : Taking) (types rows : List ℕ) (due : List ℤ) (n : Passed) → firstRefusal first es ≡ o
-    → first ++ es ≡ before → Holds before types rows due n → Settled o (λ x. r ≡ Refused x) (r ≡ Taken n) → AllBehind first es r types rows due
+    → first ++ es ≡ before → Holds before types rows due n → Settled o (λ x. r ≡ Refused x) (r ≡ Taken n) → AllAfter first es r types rows due
 all-passed first before es none r types rows due n e f h g = rw g (e, rw f h)
 all-passed first before es (some x) r types rows due n e f h g = rw g e
 
@@ -135,7 +136,7 @@ unfolding firstRefusal
 last-is before = refl
 
 pub reach-done : (text : List ℕ) (at : ℕ) (types rows : List ℕ) (due : List ℤ) (n : Passed) (r : Taking) → Reaches text at types rows due n → length text ≤ at
-    → Finished rows n r → AllBehind [] (textEntries text) r types rows due
+    → Finished rows n r → AllAfter [] (textEntries text) r types rows due
 reach-done text at types rows due n r s h f =
     let none-left = lines-over text at h in
     all-passed [] (s .before) (textEntries text) (lastRefusal (s .before)) r types rows due n

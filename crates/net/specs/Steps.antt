@@ -2,10 +2,12 @@
 use mathlib.Core.Path.{_≡_}
 use mathlib.Core.List.{List, [], _∷_, _++_}
 use mathlib.Core.Option.{none, some}
-use Prim.Native.Nat.{ℕ, _≤_}
+use Prim.Native.Nat.{ℕ, _≤_, _*_}
 use native.Mathlib.Omega.{arith}
 use lib.IntN.{ℤ}
 use lib.ListN.{length, drop}
+use Rattle.rules.specs.Tables.{typeWords, rowWords}
+use Rattle.rules.specs.Quantities.{typesRoom, rowsRoom}
 use Rattle.rules.specs.Entries.{Entry}
 use Rattle.rules.specs.Text.{parted, lineOf, linesOf, textEntries}
 use Rattle.rules.specs.Refusals.{lineRefusal, firstRefusal}
@@ -17,11 +19,11 @@ use Rattle.entries.specs.Held.{Holds}
 
 -- the areas have their room
 pub record Rooms (types rows : List ℕ) (due : List ℤ) : Type 0 where
-  pub types-room : 12 ≤ length types
-  pub rows-room : 1536 ≤ length rows
-  pub due-room : 256 ≤ length due
+  pub types-room : typeWords * typesRoom ≤ length types
+  pub rows-room : rowWords * rowsRoom ≤ length rows
+  pub due-room : rowsRoom ≤ length due
 
--- an entry behind those that have passed: refused, or held with them
+-- an entry after those that have passed: refused, or held with them
 abbrev pub EntryTaken : (before : List Entry) → Entry → Taking → (types rows : List ℕ) (due : List ℤ) → Type 0
 EntryTaken before e (Refused x) types rows due = lineRefusal before e ≡ some x
 EntryTaken before e (Taken m) types rows due = (lineRefusal before e ≡ none) × Holds (before ++ (e ∷ [])) types rows due m
@@ -30,13 +32,13 @@ abbrev pub LineTaken : (line : List ℕ) (types rows : List ℕ) (due : List ℤ
 LineTaken line types rows due n r types′ rows′ due′ =
     (before : List Entry) → Holds before types rows due n → EntryTaken before (lineOf (parted tab line)) r types′ rows′ due′
 
--- all entries, behind those that have passed
-abbrev pub AllBehind : (before rest : List Entry) → Taking → (types rows : List ℕ) (due : List ℤ) → Type 0
-AllBehind before rest (Refused x) types rows due = firstRefusal before rest ≡ some x
-AllBehind before rest (Taken m) types rows due = (firstRefusal before rest ≡ none) × Holds (before ++ rest) types rows due m
+-- all entries, after those that have passed
+abbrev pub AllAfter : (before rest : List Entry) → Taking → (types rows : List ℕ) (due : List ℤ) → Type 0
+AllAfter before rest (Refused x) types rows due = firstRefusal before rest ≡ some x
+AllAfter before rest (Taken m) types rows due = (firstRefusal before rest ≡ none) × Holds (before ++ rest) types rows due m
 
 abbrev pub AllTaken : (text : List ℕ) → Taking → (types rows : List ℕ) (due : List ℤ) → Type 0
-AllTaken text r types rows due = AllBehind [] (textEntries text) r types rows due
+AllTaken text r types rows due = AllAfter [] (textEntries text) r types rows due
 
 -- the entries of the lines from a place on
 abbrev pub linesFrom : (text : List ℕ) → ℕ → List Entry

@@ -1,8 +1,8 @@
--- The entries of a table one by one: entries counted, taken behind those that have passed, the first past the room. Assumes nothing.
+-- The entries of a table one by one: entries counted, taken after those that have passed, the first past the room. Assumes nothing.
 use mathlib.Core.Path.{_≡_, refl, ap, _∙_}
 use mathlib.Core.Bool.{cond}
 use mathlib.Core.List.{List, [], _∷_, _++_, append-assoc, append-nil}
-use mathlib.Core.Option.{none, some}
+use mathlib.Core.Option.{none, some, orElse}
 use Prim.Native.Nat.{ℕ, zero, suc, _+_, _-_, _≤_, _<_, min}
 use native.Mathlib.Omega.{arith}
 use lib.Dec.{ltb}
@@ -23,7 +23,7 @@ use Rattle.entries.specs.Lines.{lineFor}
 use Rattle.checks.specs.Checks.{checkOf, placeAt}
 use Rattle.entries.specs.Held.{Holds, Grown, countedWith}
 use Rattle.ending.specs.Below.{Finished}
-use Rattle.net.specs.Steps.{AllBehind}
+use Rattle.net.specs.Steps.{AllAfter}
 use Rattle.net.specs.TableSteps.{Through}
 use Rattle.net.specs.ReadLaws.{all-passed, last-is}
 use Rattle.net.specs.Passing.{first-refused, first-passed}
@@ -105,9 +105,9 @@ module _ (t : Tables) (entry : ℕ → Entry) (before : List Entry) (i : ℕ) (n
       (entry-passed (before ++ from entry 0 i) (t .types) (t .rows) (t .due) n (s .held) (entry i) place line r place-is line-is r-is a)
       (entry-held (before ++ from entry 0 i) (t .types) (t .rows) (t .due) n (s .held) (entry i) place line r place-is line-is r-is (t .types) (t .rows) (t .due) m a g c))
 
--- ---- behind the last that is read
+-- ---- past the last that is read
 beyond-refused : (before : List Entry) (place : ℕ) → place ≡ length before + 1 → lineRefusal before beyond ≡ some (Room place)
-unfolding lineRefusal misplaced outOfRange tooMany
+unfolding lineRefusal misplaced outOfRange tooMany orElse
 beyond-refused before place e = rw e
 
 module _ (t : Tables) (entry : ℕ → Entry) (before : List Entry) (room count i : ℕ) (n : Passed) (s : Through t before (from entry 0 i) n) (all : i ≡ min count room) where
@@ -125,7 +125,7 @@ module _ (t : Tables) (entry : ℕ → Entry) (before : List Entry) (room count 
   take-beyond-all place p h = rw (append-nil (counted entry room count)) at (take-beyond place p h [])
 
   -- all have passed: what the checks after the last line give
-  pub take-done : count ≤ room → (r : Taking) → Finished (t .rows) n r → AllBehind before (counted entry room count) r (t .types) (t .rows) (t .due)
+  pub take-done : count ≤ room → (r : Taking) → Finished (t .rows) n r → AllAfter before (counted entry room count) r (t .types) (t .rows) (t .due)
   take-done h r f =
       let u = take-all h in
       all-passed before (before ++ counted entry room count) (counted entry room count) (lastRefusal (before ++ counted entry room count)) r (t .types) (t .rows) (t .due) n

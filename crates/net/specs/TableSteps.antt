@@ -4,26 +4,26 @@ use mathlib.Core.List.{List, [], _++_}
 use mathlib.Core.Option.{some}
 use Prim.Native.Nat.{ℕ}
 use lib.IntN.{ℤ}
+use Rattle.rules.specs.Quantities.{rowsRoom, typesRoom}
 use Rattle.rules.specs.Entries.{Entry}
-use Rattle.rules.specs.Tables.{Tables, typeEntry, rowEntry, counted}
+use Rattle.rules.specs.Tables.{Tables, typeEntry, rowEntry, counted, tablesOf}
 use Rattle.rules.specs.Refusals.{firstRefusal}
-pub use Rattle.laws.specs.Checked.{tablesOf, countsOf}
 pub use Rattle.checks.specs.Checks.{checking}
 use Rattle.checks.specs.declared.Passed.{Passed}
 use Rattle.ending.specs.declared.Taking.{Taking}
 use Rattle.ending.specs.declared.Taking.the-variants.{Taken, Refused}
 use Rattle.checks.specs.Checks.{FewPassed}
 use Rattle.entries.specs.Held.{Holds}
-use Rattle.net.specs.Steps.{AllBehind}
+use Rattle.net.specs.Steps.{AllAfter}
 
 -- the entries of the types, and of the rows
 abbrev pub typeEntries : Tables → (count : ℕ) → List Entry
-typeEntries t count = counted (typeEntry t) 4 count
+typeEntries t count = counted (typeEntry t) typesRoom count
 
 abbrev pub rowEntries : Tables → (count : ℕ) → List Entry
-rowEntries t count = counted (rowEntry t) 256 count
+rowEntries t count = counted (rowEntry t) rowsRoom count
 
--- some entries have passed behind others, and whatever comes next is refused behind both
+-- some entries have passed after others, and whatever comes next is refused after both
 pub record Through (t : Tables) (before es : List Entry) (n : Passed) : Type 0 where
   pub held : Holds (before ++ es) (t .types) (t .rows) (t .due) n
   pub first : (rest : List Entry) → firstRefusal before (es ++ rest) ≡ firstRefusal (before ++ es) rest
@@ -42,4 +42,4 @@ TypesTaken types count r = (rows : List ℕ) (due : List ℤ) → Passes (tables
 
 abbrev pub RowsTaken : (rows : List ℕ) (due : List ℤ) → Passed → (count : ℕ) → Taking → Type 0
 RowsTaken rows due n count r =
-    (types : List ℕ) (before : List Entry) → Holds before types rows due n → AllBehind before (rowEntries (tablesOf types rows due) count) r types rows due
+    (types : List ℕ) (before : List Entry) → Holds before types rows due n → AllAfter before (rowEntries (tablesOf types rows due) count) r types rows due

@@ -1,4 +1,4 @@
--- One entry taken behind those that have passed: refused with the refusal list's refusal, or held with them. Assumes nothing.
+-- One entry taken after those that have passed: refused with the refusal list's refusal, or held with them. Assumes nothing.
 use mathlib.Core.Path.{_≡_, sym, ap, _∙_}
 use mathlib.Core.List.{List, [], _∷_, _++_}
 use mathlib.Core.Option.{none, some}

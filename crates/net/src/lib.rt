@@ -1,18 +1,14 @@
 // A net read from text, and a net given as tables. Both go entry by entry: a line of the text, or the words of a table's entry, is
-// checked behind what has passed, and counted.
-use reads::read_into;
-use rooms::ROWS_AREA;
-use rooms::ROWS_ROOM;
-use rooms::TEXT_ROOM;
-use rooms::TYPES_AREA;
+// checked after what has passed, and counted.
+use reads::read_through;
 use rules::Checking;
 use rules::Reading;
 use rules::Refusal;
 use tables::take_net;
 ghost use mathlib.Core.Path.{_≡_};
-ghost use Rattle.rules.specs.Promises.{ReadPromise, CheckPromise, tablesRefusal};
+ghost use Rattle.rules.specs.Promises.{ReadPromise, CheckPromise, netRefusal, tabled};
+ghost use Rattle.rules.specs.Tables.{tablesOf, countsOf};
 ghost use Rattle.checks.specs.Checks.{checking};
-ghost use Rattle.net.specs.TableSteps.{tablesOf, countsOf};
 
 mod lines;
 mod reads;
@@ -23,24 +19,11 @@ mod tables;
 pub fn read_net(text: &[u8], types: &mut [u32], rows: &mut [u32], due: &mut [i64]) -> Reading
     ensures { λ r. ⌜ ReadPromise (now (text .entry)) (tablesOf (now (types .entry)) (now (rows .entry)) (now (due .entry))) r (tablesOf (now (types .exit)) (now (rows .exit)) (now (due .exit))) ⌝ }
 {
-    if rooms::short_tables(types.len(), rows.len(), due.len()) {
-        return Reading::Refused(Refusal::Short);
+    let short = rooms::short_tables(types.len(), rows.len(), due.len());
+    match rooms::check_text(short, text.len()) {
+        Checking::Refused(r) => Reading::Refused(r),
+        Checking::Accepted => read_through(text, types, rows, due),
     }
-    if TEXT_ROOM < text.len() {
-        return Reading::Refused(Refusal::Room(0));
-    }
-    let mut type_words = [0u32; TYPES_AREA];
-    let mut row_words = [0u32; ROWS_AREA];
-    let mut times = [0i64; ROWS_ROOM];
-    read_into(
-        text,
-        &mut type_words[..],
-        &mut row_words[..],
-        &mut times[..],
-        types,
-        rows,
-        due,
-    )
 }
 
 // The refusal of a net given as tables: 7 also where an area of the caller's own is short, then entry by entry.
@@ -52,7 +35,7 @@ pub fn check_tables(
     type_count: usize,
     row_count: usize,
 ) -> Checking
-    ensures { λ r. ⌜ r ≡ checking (tablesRefusal short (tablesOf (now (types .entry)) (now (rows .entry)) (now (due .entry))) (countsOf «type_count» «row_count»)) ⌝ }
+    ensures { λ r. ⌜ r ≡ checking (netRefusal short (tabled (tablesOf (now (types .entry)) (now (rows .entry)) (now (due .entry))) (countsOf «type_count» «row_count»))) ⌝ }
 {
     if rooms::short_tables(types.len(), rows.len(), due.len()) {
         return Checking::Refused(Refusal::Short);
@@ -71,7 +54,7 @@ pub fn check_net(
     type_count: usize,
     row_count: usize,
 ) -> Checking
-    ensures { λ r. ⌜ CheckPromise (tablesOf (now (types .entry)) (now (rows .entry)) (now (due .entry))) (countsOf «type_count» «row_count») r ⌝ }
+    ensures { λ r. ⌜ CheckPromise (tabled (tablesOf (now (types .entry)) (now (rows .entry)) (now (due .entry))) (countsOf «type_count» «row_count»)) r ⌝ }
 {
     check_tables(false, types, rows, due, type_count, row_count)
 }

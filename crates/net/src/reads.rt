@@ -10,7 +10,10 @@ use entries::copies::copy_times;
 use entries::copies::copy_words;
 use entries::counts::passed_with;
 use rooms::ROW_WORDS;
+use rooms::ROWS_AREA;
+use rooms::ROWS_ROOM;
 use rooms::TYPE_WORDS;
+use rooms::TYPES_AREA;
 use rules::Checking;
 use rules::Reading;
 use rules::Refusal;
@@ -18,8 +21,8 @@ use text::stretch_end;
 ghost use Prim.Native.Nat.{_+_, _*_, _<_};
 ghost use Rattle.checks.specs.Checks.{FewPassed};
 ghost use Rattle.net.specs.Steps.{Rooms, LineTaken, AllTaken};
-ghost use Rattle.net.specs.Filled.{ReadBehind};
-ghost use Rattle.net.specs.TableSteps.{tablesOf};
+ghost use Rattle.net.specs.Filled.{ReadAfter};
+ghost use Rattle.rules.specs.Tables.{tablesOf};
 
 const LINE_FEED: u8 = b'\n';
 
@@ -67,7 +70,7 @@ pub fn read_lines(text: &[u8], types: &mut [u32], rows: &mut [u32], due: &mut [i
 }
 
 // A text read into areas of one's own, and from there into the lent ones where nothing is refused.
-pub fn read_into(
+fn read_into(
     text: &[u8],
     type_words: &mut [u32],
     row_words: &mut [u32],
@@ -77,7 +80,7 @@ pub fn read_into(
     due: &mut [i64],
 ) -> Reading
     requires { ⌜ Rooms (now «type_words») (now «row_words») (now times) × Rooms (now types) (now rows) (now due) ⌝ }
-    ensures { λ r. ⌜ ReadBehind (now (text .entry)) (tablesOf (now (types .entry)) (now (rows .entry)) (now (due .entry))) r (tablesOf (now (types .exit)) (now (rows .exit)) (now (due .exit))) ⌝ }
+    ensures { λ r. ⌜ ReadAfter (now (text .entry)) (tablesOf (now (types .entry)) (now (rows .entry)) (now (due .entry))) r (tablesOf (now (types .exit)) (now (rows .exit)) (now (due .exit))) ⌝ }
 {
     match read_lines(text, type_words, row_words, times) {
         Taking::Refused(r) => Reading::Refused(r),
@@ -93,4 +96,23 @@ pub fn read_into(
             }
         }
     }
+}
+
+// A text read through areas of its own.
+pub fn read_through(text: &[u8], types: &mut [u32], rows: &mut [u32], due: &mut [i64]) -> Reading
+    requires { ⌜ Rooms (now types) (now rows) (now due) ⌝ }
+    ensures { λ r. ⌜ ReadAfter (now (text .entry)) (tablesOf (now (types .entry)) (now (rows .entry)) (now (due .entry))) r (tablesOf (now (types .exit)) (now (rows .exit)) (now (due .exit))) ⌝ }
+{
+    let mut type_words = [0u32; TYPES_AREA];
+    let mut row_words = [0u32; ROWS_AREA];
+    let mut times = [0i64; ROWS_ROOM];
+    read_into(
+        text,
+        &mut type_words[..],
+        &mut row_words[..],
+        &mut times[..],
+        types,
+        rows,
+        due,
+    )
 }

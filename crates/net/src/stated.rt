@@ -1,16 +1,15 @@
 // What the numbers of a line make: a type, a wire, a pin. A number too large for any range is cut to one that is still out of range.
-use checks::Repeater;
 use checks::Wire;
-use entries::words::repeater;
+use repeaters::Buffer;
+use repeaters::repeater;
+use rooms::ranges::WORD_CAP;
 use rules::Femtofarad;
 use rules::Femtosecond;
 use rules::Ohm;
 use rules::Pin;
 ghost use mathlib.Core.Path.{_≡_};
-ghost use Rattle.entries.specs.Lines.{word, repeaterOf, wireOf, pinOf};
-
-// Above the range of every word.
-const WORD_CAP: u64 = 2_000_000_000;
+ghost use Rattle.repeaters.specs.Repeaters.{bufferOf};
+ghost use Rattle.entries.specs.Lines.{word, wireOf, pinOf};
 
 pub fn word_of(n: u64) -> u32
     ensures { λ r. ⌜ r ≡ word n ⌝ }
@@ -18,11 +17,11 @@ pub fn word_of(n: u64) -> u32
     if n < WORD_CAP {
         return n as u32;
     }
-    2_000_000_000
+    WORD_CAP as u32
 }
 
-pub fn repeater_read(input: u64, resistance: u64, own: u64) -> Repeater
-    ensures { λ r. ⌜ r ≡ repeaterOf (word input) (word resistance) (word own) ⌝ }
+pub fn repeater_read(input: u64, resistance: u64, own: u64) -> Buffer
+    ensures { λ r. ⌜ r ≡ bufferOf (word input) (word resistance) (word own) ⌝ }
 {
     repeater(word_of(input), word_of(resistance), word_of(own))
 }

@@ -8,20 +8,22 @@ use ending::finish;
 use entries::counts::passed_with;
 use entries::counts::with_row;
 use entries::words::check_row_at;
-use entries::words::type_at;
+use repeaters::type_at;
 use rooms::ROW_WORDS;
 use rooms::ROWS_ROOM;
 use rooms::TYPES_ROOM;
+use rooms::words::ROW_SITE;
 use rules::Checking;
 use rules::Refusal;
 ghost use mathlib.Core.Path.{_≡_};
-ghost use Prim.Native.Nat.{_≤_, min};
+ghost use Prim.Native.Nat.{_≤_, min, _*_};
 ghost use lib.ListN.{length};
-ghost use Rattle.rules.specs.Tables.{tableEntries};
+ghost use Rattle.rules.specs.Quantities.{typesRoom, rowsRoom};
+ghost use Rattle.rules.specs.Tables.{tableEntries, typeWords, rowWords, tablesOf, countsOf};
 ghost use Rattle.rules.specs.Refusals.{refusalOf};
 ghost use Rattle.checks.specs.Checks.{FewPassed, checking};
 ghost use Rattle.net.specs.Steps.{Rooms};
-ghost use Rattle.net.specs.TableSteps.{tablesOf, countsOf, FewTaken, TypesTaken, RowsTaken};
+ghost use Rattle.net.specs.TableSteps.{FewTaken, TypesTaken, RowsTaken};
 
 fn fewer(count: usize, room: usize) -> usize
     ensures { λ r. ⌜ r ≡ min count room ⌝ }
@@ -34,7 +36,7 @@ fn fewer(count: usize, room: usize) -> usize
 
 // The types, as many as are counted; the first past the room is refused unread.
 pub fn take_types(types: &[u32], count: usize) -> Taking
-    requires { ⌜ 12 ≤ length (now types) ⌝ }
+    requires { ⌜ typeWords * typesRoom ≤ length (now types) ⌝ }
     ensures few { λ r. ⌜ FewTaken r ⌝ }
     ensures passes { λ r. ⌜ TypesTaken (now (types .entry)) count r ⌝ }
 {
@@ -63,7 +65,7 @@ pub fn take_types(types: &[u32], count: usize) -> Taking
 
 // The rows, as many as are counted; the first past the room is refused unread. Then the checks after the last.
 pub fn take_rows(rows: &[u32], due: &[i64], n: Passed, count: usize) -> Taking
-    requires { ⌜ (FewPassed n × (n .rows ≡ 0)) × ((1536 ≤ length (now rows)) × (256 ≤ length (now due))) ⌝ }
+    requires { ⌜ (FewPassed n × (n .rows ≡ 0)) × ((rowWords * rowsRoom ≤ length (now rows)) × (rowsRoom ≤ length (now due))) ⌝ }
     ensures { λ r. ⌜ RowsTaken (now (rows .entry)) (now (due .entry)) n count r ⌝ }
 {
     let mut m = n;
@@ -73,7 +75,7 @@ pub fn take_rows(rows: &[u32], due: &[i64], n: Passed, count: usize) -> Taking
         match check_row_at(rows, due, m, i) {
             Checking::Refused(r) => return Taking::Refused(r),
             Checking::Accepted => {
-                m = with_row(m, rows[ROW_WORDS * i + 4]);
+                m = with_row(m, rows[ROW_WORDS * i + ROW_SITE]);
                 i += 1;
             }
         }

@@ -2,17 +2,15 @@
 use mathlib.Core.Path.{_≡_, refl, sym, ap, _∙_}
 use mathlib.Core.Bool.{Bool, true, false, not, cond}
 use mathlib.Core.List.{List, _∷_, _++_}
-use mathlib.Core.Logic.{_⊎_, inl, inr}
 use Prim.Native.Nat.{ℕ, _≤_, _<_}
 use native.Mathlib.Omega.{arith}
-use native.Mathlib.Decide.{decLe}
 use lib.Dec.{leb, ltb}
 use lib.IntN.{ℤ}
 use lib.Signed.{ltZ, _≤ℤ_, _<ℤ_}
 use borrow.Author.Tests.{ltb-true, ltb-false, leb-true, leb-false}
 use Rattle.rules.specs.Lists.{All, nil, cons}
-use Rattle.laws.specs.Integers.{times, ≤-or-<}
-use Rattle.laws.specs.Candidates.{Cand, Covers, Below, Stand, covers, covered, below, above, stand, standBy, put, thinIn}
+use Rattle.laws.specs.Integers.{times}
+use Rattle.laws.specs.Candidates.{Cand, Covers, Below, Stand, covers, covered, below, above, stand, put, thinIn}
 use Rattle.laws.specs.Thinning.{lt-true, lt-false}
 
 -- load and time both less
@@ -23,9 +21,9 @@ isBelow load time other later = cond (ltb load other) (ltZ time later) false
 unfoldable pub isCovering : (load : ℕ) (time : ℤ) (other : ℕ) (earlier : ℤ) → Bool
 isCovering load time other earlier = cond (leb load other) (not (ltZ time earlier)) false
 
--- it is covered, and does not cover
+-- the other covers it
 unfoldable pub isCovered : (load : ℕ) (time : ℤ) (other : ℕ) (later : ℤ) → Bool
-isCovered load time other later = cond (isCovering other later load time) (not (isCovering load time other later)) false
+isCovered load time other later = isCovering other later load time
 
 clash : false ≡ true → ⊥
 clash e = let z : _≡_ {A = ℕ} 0 1 = cc in omega arith
@@ -68,23 +66,13 @@ module _ {W : Type 0} (a b : Cand W) where
       go false q f g e = let k = f refl in omega times
 
 module _ {W : Type 0} (a b : Cand W) where
-  pub covered-yes : isCovered (a .load) (a .time) (b .load) (b .time) ≡ true → Covers b a × (Covers a b → ⊥)
+  pub covered-yes : isCovered (a .load) (a .time) (b .load) (b .time) ≡ true → Covers b a
   unfolding isCovered
-  covered-yes e = go (isCovering (b .load) (b .time) (a .load) (a .time)) (isCovering (a .load) (a .time) (b .load) (b .time)) (covering-yes b a) (covering-no a b) e
-    where
-      go : (p q : Bool) → (p ≡ true → Covers b a) → (q ≡ false → Covers a b → ⊥) → cond p (not q) false ≡ true → Covers b a × (Covers a b → ⊥)
-      go true false f g e = (f refl, g refl)
-      go true true f g e = absurd (clash e)
-      go false q f g e = absurd (clash e)
+  covered-yes e = covering-yes b a e
 
-  pub covered-no : isCovered (a .load) (a .time) (b .load) (b .time) ≡ false → (Covers a b → ⊥) → Covers b a → ⊥
+  pub covered-no : isCovered (a .load) (a .time) (b .load) (b .time) ≡ false → Covers b a → ⊥
   unfolding isCovered
-  covered-no e n h = go (isCovering (b .load) (b .time) (a .load) (a .time)) (isCovering (a .load) (a .time) (b .load) (b .time)) (covering-no b a) (covering-yes a b) e
-    where
-      go : (p q : Bool) → (p ≡ false → Covers b a → ⊥) → (q ≡ true → Covers a b) → cond p (not q) false ≡ false → ⊥
-      go true true f g e = n (g refl)
-      go true false f g e = clash (sym e)
-      go false q f g e = f refl h
+  covered-no e = covering-no b a e
 
 -- ---- a candidate c put into a list
 module _ {W : Type 0} (c : Cand W) where
@@ -103,30 +91,20 @@ module _ {W : Type 0} (c : Cand W) where
   thin-aboves m nil = refl
   thin-aboves m (cons {x = x} {xs = l} h t) = thin-above x (l ++ m) h ∙ ap (λ (r : List (Cand W)). x ∷ r) (thin-aboves m t)
 
-  -- where another covers it, and it does not cover that one, nothing changes
-  pub thin-covered : (x : Cand W) (xs : List (Cand W)) → Covers x c → (Covers c x → ⊥) → thinIn c (x ∷ xs) ≡ x ∷ xs
+  -- what it beats goes
+  pub thin-covers : (x : Cand W) (xs : List (Cand W)) → Covers c x → (Covers x c → ⊥) → thinIn c (x ∷ xs) ≡ thinIn c xs
   unfolding thinIn put
-  thin-covered x xs h n = go (stand c x)
+  thin-covers x xs h n = go (stand c x)
     where
-      go : (s : Stand c x) → put c x xs (thinIn c xs) s ≡ x ∷ xs
-      go (covers k) = absurd (n k)
-      go (covered k) = refl
+      go : (s : Stand c x) → put c x xs (thinIn c xs) s ≡ thinIn c xs
+      go (covers k) = refl
+      go (covered k) = absurd (n k)
       go (below k) = absurd (omega times)
       go (above k) = absurd (omega times)
 
-  -- what it covers goes, its equal too
-  pub thin-covers : (x : Cand W) (xs : List (Cand W)) → Covers c x → thinIn c (x ∷ xs) ≡ thinIn c xs
-  unfolding thinIn put stand standBy
-  thin-covers x xs h = go (decLe (c .load) (x .load)) (decLe (x .load) (c .load)) (≤-or-< (x .time) (c .time)) (≤-or-< (c .time) (x .time))
-    where
-      go : (l : Dec (c .load ≤ x .load)) (r : Dec (x .load ≤ c .load)) (t : (x .time ≤ℤ c .time) ⊎ (c .time <ℤ x .time)) (s : (c .time ≤ℤ x .time) ⊎ (x .time <ℤ c .time)) → put c x xs (thinIn c xs) (standBy c x l r t s) ≡ thinIn c xs
-      go (yes l) r (inl t) s = refl
-      go (yes l) r (inr t) s = absurd (omega times)
-      go (no l) r t s = absurd (l (h .light))
-
-  pub thin-coverings : {l : List (Cand W)} (m : List (Cand W)) → All (λ x. Covers c x) l → thinIn c (l ++ m) ≡ thinIn c m
+  pub thin-coverings : {l : List (Cand W)} (m : List (Cand W)) → All (λ x. Covers c x × (Covers x c → ⊥)) l → thinIn c (l ++ m) ≡ thinIn c m
   thin-coverings m nil = refl
-  thin-coverings m (cons {x = x} {xs = l} h t) = thin-covers x (l ++ m) h ∙ thin-coverings m t
+  thin-coverings m (cons {x = x} {xs = l} h t) = thin-covers x (l ++ m) (h .0) (h .1) ∙ thin-coverings m t
 
   -- it stands before what has more of both
   pub thin-below : (x : Cand W) (xs : List (Cand W)) → Below c x → thinIn c (x ∷ xs) ≡ c ∷ x ∷ xs

@@ -6,8 +6,10 @@ ghost use mathlib.Core.Path.{_≡_};
 ghost use mathlib.Core.Bool.{cond};
 ghost use Prim.Native.Nat.{_+_, _*_, _≤_, _<_};
 ghost use lib.Signed.{mag, ltZ};
-ghost use Rattle.rules.specs.Quantities.{_⊖_, mostOhms, mostOwn, mostLoad};
+ghost use Rattle.rules.specs.Quantities.{_⊖_, mostOhms, mostOwn};
+ghost use Rattle.laws.specs.Ranges.{mostLoad};
 ghost use Rattle.laws.specs.Integers.{minℤ};
+ghost use Rattle.units.specs.Times.{Own};
 ghost use Rattle.pairs.specs.Reach.{near};
 ghost use Rattle.pairs.specs.Stands.{isBelow, isCovering, isCovered};
 
@@ -21,13 +23,17 @@ pub fn time_before(time: Femtosecond, r: Ohm, load: Femtofarad) -> Femtosecond
 }
 
 // The time before a repeater, which has a delay of its own too.
-pub fn time_before_repeater(time: Femtosecond, own: u32, r: Ohm, load: Femtofarad) -> Femtosecond
-    requires { ⌜ (mag (time .0) + mostOwn + 1 < near) × (own ≤ mostOwn) ⌝ }
+pub fn time_before_repeater(
+    time: Femtosecond,
+    own: Femtosecond,
+    r: Ohm,
+    load: Femtofarad,
+) -> Femtosecond
+    requires { ⌜ (mag (time .0) + mostOwn + 1 < near) × Own (own .0) ⌝ }
     requires { ⌜ (r .0 ≤ mostOhms) × (load .0 ≤ mostLoad) ⌝ }
-    ensures { λ t. ⌜ t .0 ≡ time .0 ⊖ (own + r .0 * load .0) ⌝ }
+    ensures { λ t. ⌜ t .0 ≡ time .0 ⊖ (mag (own .0) + r .0 * load .0) ⌝ }
 {
-    let d = units::time_of(own);
-    let t = units::less(time, d);
+    let t = units::less(time, own);
     time_before(t, r, load)
 }
 
@@ -38,20 +44,20 @@ pub struct Pair {
 }
 
 // Two candidates where branches meet: the earlier of their times, and their loads together.
-pub fn joined(load: Femtofarad, time: Femtosecond, other: Femtofarad, when: Femtosecond) -> Pair
+pub fn joined(load: Femtofarad, time: Femtosecond, other: Femtofarad, second: Femtosecond) -> Pair
     requires { ⌜ load .0 + other .0 ≤ mostLoad ⌝ }
-    ensures time { λ r. ⌜ r .time .0 ≡ minℤ (time .0) (when .0) ⌝ }
+    ensures time { λ r. ⌜ r .time .0 ≡ minℤ (time .0) (second .0) ⌝ }
     ensures load { λ r. ⌜ r .load .0 ≡ load .0 + other .0 ⌝ }
 {
     let both = units::together(load, other);
-    let least = units::earlier(time, when);
+    let least = units::earlier(time, second);
     Pair {
         load: both,
         time: least,
     }
 }
 
-// 1 if the second time is later than the first, or else 0: how much longer a list is with the second kept behind the first.
+// 1 if the second time is later than the first, or else 0: how much longer a list is with the second kept after the first.
 pub fn later(first: Femtosecond, second: Femtosecond) -> usize
     ensures small { λ r. ⌜ r ≤ 1 ⌝ }
     ensures value { λ r. ⌜ r ≡ cond (ltZ (first .0) (second .0)) 1 0 ⌝ }
@@ -88,7 +94,7 @@ pub fn is_covering(
     false
 }
 
-// Whether the second pair beats the first: it covers it, and is not covered by it.
+// Whether the second pair covers the first.
 pub fn is_covered(
     load: Femtofarad,
     time: Femtosecond,
@@ -97,10 +103,7 @@ pub fn is_covered(
 ) -> bool
     ensures { λ r. ⌜ r ≡ isCovered (load .0) (time .0) (other .0) (later .0) ⌝ }
 {
-    if is_covering(other, later, load, time) {
-        return !is_covering(load, time, other, later);
-    }
-    false
+    is_covering(other, later, load, time)
 }
 
 // A place of a list, and what the candidate there is worth.

@@ -18,7 +18,7 @@ use Rattle.columns.specs.Choosing.{Chosen}
 
 -- the four words of candidate b
 abbrev pub fourAt : List ℕ → (b : ℕ) → List ℕ
-fourAt words b = getD words (4 * b) 0 ∷ getD words (4 * b + 1) 0 ∷ getD words (4 * b + 2) 0 ∷ getD words (4 * b + 3) 0 ∷ []
+fourAt words b = getD words (placementRoom * b) 0 ∷ getD words (placementRoom * b + 1) 0 ∷ getD words (placementRoom * b + 2) 0 ∷ getD words (placementRoom * b + 3) 0 ∷ []
 
 -- four words stored at the start of an area
 pub four-written : (p : List ℕ) (a b c d : ℕ) → placementRoom ≤ length p → set (set (set (set p 0 a) 1 b) 2 c) 3 d ≡ written (a ∷ b ∷ c ∷ d ∷ []) p

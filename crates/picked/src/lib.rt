@@ -1,4 +1,5 @@
 // Of a list of candidates at the driver the first greatest behind the driver, and its placement put down.
+use rooms::PLACEMENT_ROOM;
 use rules::Femtofarad;
 use rules::Femtosecond;
 ghost use mathlib.Core.Path.{_≡_};
@@ -17,10 +18,10 @@ pub struct Timing {
 
 // The four words of candidate b, put at the start of a placement.
 fn put_placement(words: &[u64], b: usize, placement: &mut [u64])
-    requires { ⌜ (4 * b + 4 ≤ length (now words)) × (placementRoom ≤ length (now placement)) ⌝ }
+    requires { ⌜ (placementRoom * b + placementRoom ≤ length (now words)) × (placementRoom ≤ length (now placement)) ⌝ }
     ensures { λ _. ⌜ now (placement .exit) ≡ written (fourAt (now (words .entry)) b) (now (placement .entry)) ⌝ }
 {
-    let at = 4 * b;
+    let at = PLACEMENT_ROOM * b;
     placement[0] = words[at];
     placement[1] = words[at + 1];
     placement[2] = words[at + 2];

@@ -1,16 +1,20 @@
 // Planning a net: what is refused, and the work areas lent on at exactly their room.
+use rooms::PLACEMENT_ROOM;
 use rooms::WORK_ROOM;
 use rules::Checking;
 use rules::Listing;
 use rules::Planning;
 use rules::Refusal;
-ghost use Prim.Native.Nat.{_*_, _≤_};
+ghost use Prim.Native.Nat.{_≤_};
 ghost use lib.ListN.{length};
 ghost use Rattle.rules.specs.Quantities.{placementRoom};
-ghost use Rattle.rules.specs.Promises.{CheckPromise, PlanPromise, ListPromise, columns};
-ghost use Rattle.laws.specs.Checked.{tablesOf, countsOf, Passed};
+ghost use Rattle.rules.specs.Promises.{CheckPromise, PlanPromise, ListPromise, tabled};
+ghost use Rattle.rules.specs.Areas.{columns, columnsOf, lentOf, listAreas, planAreas};
+ghost use Rattle.rules.specs.Tables.{tablesOf, countsOf, tableEntries};
+ghost use Rattle.rules.specs.Answers.{planFigures};
+ghost use Rattle.laws.specs.Checked.{Passed};
+ghost use Rattle.laws.specs.Picked.{Picks};
 ghost use Rattle.columns.specs.Made.{Room};
-ghost use Rattle.chosen.specs.Lent.{columnsOf, lentOf};
 
 mod listing;
 
@@ -28,10 +32,11 @@ fn plan_accepted(
 ) -> Planning
     requires { ⌜ Passed (tablesOf (now types) (now rows) (now due)) (countsOf count n) ⌝ }
     requires { ⌜ (placementRoom ≤ length (now placement)) × Room (now loads) (now times) (now words) ⌝ }
-    ensures { λ r. ⌜ PlanPromise columns (tablesOf (now (types .entry)) (now (rows .entry)) (now (due .entry))) (countsOf count n) (now (placement .entry)) (columnsOf (now (loads .entry)) (now (times .entry)) (now (words .entry))) r (now (placement .exit)) (columnsOf (now (loads .exit)) (now (times .exit)) (now (words .exit))) ⌝ }
+    ensures planned { λ r. ⌜ PlanPromise columns (tabled (tablesOf (now (types .entry)) (now (rows .entry)) (now (due .entry))) (countsOf count n)) (planAreas (now (placement .entry)) (columnsOf (now (loads .entry)) (now (times .entry)) (now (words .entry)))) r (planAreas (now (placement .exit)) (columnsOf (now (loads .exit)) (now (times .exit)) (now (words .exit)))) ⌝ }
+    ensures picked { λ r. ⌜ Picks (tableEntries (tablesOf (now (types .entry)) (now (rows .entry)) (now (due .entry))) (countsOf count n)) (now (placement .entry)) (now (placement .exit)) (planFigures r .number) ⌝ }
 {
     let room = WORK_ROOM;
-    let wide = 4 * WORK_ROOM;
+    let wide = PLACEMENT_ROOM * WORK_ROOM;
     let t = chosen::plan_in(
         types,
         rows,
@@ -61,8 +66,9 @@ fn plan_checked(
     times: &mut [i64],
     words: &mut [u64],
 ) -> Planning
-    requires { ⌜ CheckPromise (tablesOf (now types) (now rows) (now due)) (countsOf count n) checked ⌝ }
-    ensures { λ r. ⌜ PlanPromise columns (tablesOf (now (types .entry)) (now (rows .entry)) (now (due .entry))) (countsOf count n) (now (placement .entry)) (columnsOf (now (loads .entry)) (now (times .entry)) (now (words .entry))) r (now (placement .exit)) (columnsOf (now (loads .exit)) (now (times .exit)) (now (words .exit))) ⌝ }
+    requires { ⌜ CheckPromise (tabled (tablesOf (now types) (now rows) (now due)) (countsOf count n)) checked ⌝ }
+    ensures planned { λ r. ⌜ PlanPromise columns (tabled (tablesOf (now (types .entry)) (now (rows .entry)) (now (due .entry))) (countsOf count n)) (planAreas (now (placement .entry)) (columnsOf (now (loads .entry)) (now (times .entry)) (now (words .entry)))) r (planAreas (now (placement .exit)) (columnsOf (now (loads .exit)) (now (times .exit)) (now (words .exit)))) ⌝ }
+    ensures picked { λ r. ⌜ Picks (tableEntries (tablesOf (now (types .entry)) (now (rows .entry)) (now (due .entry))) (countsOf count n)) (now (placement .entry)) (now (placement .exit)) (planFigures r .number) ⌝ }
 {
     let short = rooms::short_placement(placement.len());
     if short {
@@ -100,7 +106,8 @@ pub fn plan_net(
     times: &mut [i64],
     words: &mut [u64],
 ) -> Planning
-    ensures { λ r. ⌜ PlanPromise columns (tablesOf (now (types .entry)) (now (rows .entry)) (now (due .entry))) (countsOf «type_count» «row_count») (now (placement .entry)) (columnsOf (now (loads .entry)) (now (times .entry)) (now (words .entry))) r (now (placement .exit)) (columnsOf (now (loads .exit)) (now (times .exit)) (now (words .exit))) ⌝ }
+    ensures planned { λ r. ⌜ PlanPromise columns (tabled (tablesOf (now (types .entry)) (now (rows .entry)) (now (due .entry))) (countsOf «type_count» «row_count»)) (planAreas (now (placement .entry)) (columnsOf (now (loads .entry)) (now (times .entry)) (now (words .entry)))) r (planAreas (now (placement .exit)) (columnsOf (now (loads .exit)) (now (times .exit)) (now (words .exit)))) ⌝ }
+    ensures picked { λ r. ⌜ Picks (tableEntries (tablesOf (now (types .entry)) (now (rows .entry)) (now (due .entry))) (countsOf «type_count» «row_count»)) (now (placement .entry)) (now (placement .exit)) (planFigures r .number) ⌝ }
 {
     let checked = net::check_net(types, rows, due, type_count, row_count);
     plan_checked(
@@ -131,7 +138,7 @@ pub fn list_at(
     times: &mut [i64],
     words: &mut [u64],
 ) -> Listing
-    ensures { λ r. ⌜ ListPromise columns (tablesOf (now (types .entry)) (now (rows .entry)) (now (due .entry))) (countsOf «type_count» «row_count») row (lentOf (now («list_loads» .entry)) (now («list_times» .entry))) (columnsOf (now (loads .entry)) (now (times .entry)) (now (words .entry))) r (lentOf (now («list_loads» .exit)) (now («list_times» .exit))) (columnsOf (now (loads .exit)) (now (times .exit)) (now (words .exit))) ⌝ }
+    ensures { λ r. ⌜ ListPromise columns (tabled (tablesOf (now (types .entry)) (now (rows .entry)) (now (due .entry))) (countsOf «type_count» «row_count»)) row (listAreas (lentOf (now («list_loads» .entry)) (now («list_times» .entry))) (columnsOf (now (loads .entry)) (now (times .entry)) (now (words .entry)))) r (listAreas (lentOf (now («list_loads» .exit)) (now («list_times» .exit))) (columnsOf (now (loads .exit)) (now (times .exit)) (now (words .exit)))) ⌝ }
 {
     let checked = net::check_net(types, rows, due, type_count, row_count);
     listing::list_checked(

@@ -1,16 +1,18 @@
 // The list at a row, of tables that were checked: what is refused, and the work areas lent on at exactly their room.
+use rooms::PLACEMENT_ROOM;
 use rooms::WORK_ROOM;
 use rules::Checking;
 use rules::Listing;
 use rules::Refusal;
 ghost use mathlib.Core.Path.{_≡_};
-ghost use Prim.Native.Nat.{_*_, _≤_, _<_};
+ghost use Prim.Native.Nat.{_≤_, _<_};
 ghost use lib.ListN.{length};
 ghost use Rattle.rules.specs.Quantities.{listRoom};
-ghost use Rattle.rules.specs.Promises.{CheckPromise, ListPromise, columns};
-ghost use Rattle.laws.specs.Checked.{tablesOf, countsOf, Passed};
+ghost use Rattle.rules.specs.Promises.{CheckPromise, ListPromise, tabled};
+ghost use Rattle.rules.specs.Areas.{columns, columnsOf, lentOf, listAreas};
+ghost use Rattle.rules.specs.Tables.{tablesOf, countsOf};
+ghost use Rattle.laws.specs.Checked.{Passed};
 ghost use Rattle.columns.specs.Made.{Room};
-ghost use Rattle.chosen.specs.Lent.{columnsOf, lentOf};
 
 // A length of a list as it is answered.
 fn listed(len: usize) -> Listing
@@ -37,10 +39,10 @@ fn list_accepted(
     requires { ⌜ Passed (tablesOf (now types) (now rows) (now due)) (countsOf count n) ⌝ }
     requires { ⌜ (row < n) × ((listRoom ≤ length (now «list_loads»)) × (listRoom ≤ length (now «list_times»))) ⌝ }
     requires { ⌜ Room (now loads) (now times) (now words) ⌝ }
-    ensures { λ r. ⌜ ListPromise columns (tablesOf (now (types .entry)) (now (rows .entry)) (now (due .entry))) (countsOf count n) row (lentOf (now («list_loads» .entry)) (now («list_times» .entry))) (columnsOf (now (loads .entry)) (now (times .entry)) (now (words .entry))) r (lentOf (now («list_loads» .exit)) (now («list_times» .exit))) (columnsOf (now (loads .exit)) (now (times .exit)) (now (words .exit))) ⌝ }
+    ensures { λ r. ⌜ ListPromise columns (tabled (tablesOf (now (types .entry)) (now (rows .entry)) (now (due .entry))) (countsOf count n)) row (listAreas (lentOf (now («list_loads» .entry)) (now («list_times» .entry))) (columnsOf (now (loads .entry)) (now (times .entry)) (now (words .entry)))) r (listAreas (lentOf (now («list_loads» .exit)) (now («list_times» .exit))) (columnsOf (now (loads .exit)) (now (times .exit)) (now (words .exit)))) ⌝ }
 {
     let room = WORK_ROOM;
-    let wide = 4 * WORK_ROOM;
+    let wide = PLACEMENT_ROOM * WORK_ROOM;
     let len = chosen::list_in(
         types,
         rows,
@@ -72,8 +74,8 @@ pub fn list_checked(
     times: &mut [i64],
     words: &mut [u64],
 ) -> Listing
-    requires { ⌜ CheckPromise (tablesOf (now types) (now rows) (now due)) (countsOf count n) checked ⌝ }
-    ensures { λ r. ⌜ ListPromise columns (tablesOf (now (types .entry)) (now (rows .entry)) (now (due .entry))) (countsOf count n) row (lentOf (now («list_loads» .entry)) (now («list_times» .entry))) (columnsOf (now (loads .entry)) (now (times .entry)) (now (words .entry))) r (lentOf (now («list_loads» .exit)) (now («list_times» .exit))) (columnsOf (now (loads .exit)) (now (times .exit)) (now (words .exit))) ⌝ }
+    requires { ⌜ CheckPromise (tabled (tablesOf (now types) (now rows) (now due)) (countsOf count n)) checked ⌝ }
+    ensures { λ r. ⌜ ListPromise columns (tabled (tablesOf (now (types .entry)) (now (rows .entry)) (now (due .entry))) (countsOf count n)) row (listAreas (lentOf (now («list_loads» .entry)) (now («list_times» .entry))) (columnsOf (now (loads .entry)) (now (times .entry)) (now (words .entry)))) r (listAreas (lentOf (now («list_loads» .exit)) (now («list_times» .exit))) (columnsOf (now (loads .exit)) (now (times .exit)) (now (words .exit)))) ⌝ }
 {
     let short = rooms::short_list(list_loads.len(), list_times.len());
     if short {

@@ -5,11 +5,9 @@ use rooms::ROW_WORDS;
 use rooms::ROWS_AREA;
 use rooms::ROWS_ROOM;
 use rooms::SITES_ROOM;
+use rooms::wide;
+use rooms::words::ROW_SITE;
 use rules::Refusal;
-
-fn wide(x: u32) -> u64 {
-    x as u64
-}
 
 fn print_number(n: u64) {
     io::write_all(STDOUT_FILENO, b" ");
@@ -30,8 +28,8 @@ fn end_line() {
 
 pub fn print_refusal(r: Refusal) {
     io::write_all(STDOUT_FILENO, b"refused");
-    print_number(wide(refusals::number_of(r)));
-    print_number(wide(refusals::place_of(r)));
+    print_number(wide::word(refusals::number_of(r)));
+    print_number(wide::word(refusals::place_of(r)));
     end_line();
 }
 
@@ -43,7 +41,7 @@ pub fn print_slack(slack: i64) {
 
 pub fn print_load(load: u32) {
     io::write_all(STDOUT_FILENO, b"load");
-    print_number(wide(load));
+    print_number(wide::word(load));
     end_line();
 }
 
@@ -70,7 +68,7 @@ pub fn print_buffers(rows: &[u32; ROWS_AREA], placement: &[u64; PLACEMENT_ROOM])
     let mut row = 0;
     let mut site = 0;
     while row < ROWS_ROOM {
-        if rows[ROW_WORDS * row + 4] == 1 {
+        if rows[ROW_WORDS * row + ROW_SITE] == 1 {
             print_buffer(row as u64, mark_of(placement, site));
             site += 1;
         }

@@ -4,17 +4,15 @@ use libc::STDIN_FILENO;
 use rooms::PLACEMENT_ROOM;
 use rooms::ROWS_AREA;
 use rooms::ROWS_ROOM;
+use rooms::TEXT_ROOM;
 use rooms::TYPES_AREA;
 use rooms::WORDS_AREA;
 use rooms::WORK_ROOM;
+use rooms::wide;
 use rules::Planning;
 use rules::Reading;
 
 mod lines;
-
-fn wide(x: u32) -> usize {
-    x as usize
-}
 
 // Of a net that was read: its plan.
 fn plan(
@@ -56,13 +54,19 @@ fn report(text: &[u8]) {
     let read = net::read_net(text, &mut types, &mut rows, &mut due);
     match read {
         Reading::Refused(r) => lines::print_refusal(r),
-        Reading::Read { types: t, rows: n } => plan(&types, &rows, &due, wide(t), wide(n)),
+        Reading::Read { types: t, rows: n } => plan(
+            &types,
+            &rows,
+            &due,
+            wide::count(t),
+            wide::count(n),
+        ),
     }
 }
 
 fn main() {
     // One byte more than a text may have: a text that fills it is too long, and is not read to its end.
-    let mut text = [0u8; 32769];
+    let mut text = [0u8; TEXT_ROOM + 1];
     let n = io::read_full(STDIN_FILENO, &mut text);
     report(&text[..n]);
 }

@@ -14,14 +14,15 @@ use Rattle.rules.specs.declared.Planning.the-variants.{Refused as NotPlanned}
 use Rattle.rules.specs.declared.Refusal.the-variants.{Short}
 use Rattle.rules.specs.Lists.{written}
 use Rattle.rules.specs.Quantities.{placementRoom, workRoom}
-use Rattle.rules.specs.Tables.{rowWords}
-use Rattle.rules.specs.Promises.{CheckPromise, zeros}
+use Rattle.rules.specs.Tables.{rowWords, tablesOf, countsOf}
+use Rattle.rules.specs.Promises.{CheckPromise, tabled}
 use Rattle.laws.specs.Steps.{best, value}
 use Rattle.laws.specs.Tabled.{rowAt}
-use Rattle.laws.specs.Checked.{tablesOf, countsOf, Passed}
+use Rattle.laws.specs.Checked.{Passed}
 use Rattle.columns.specs.Parts.{part}
 use Rattle.columns.specs.Run.{blank}
 use Rattle.rules.specs.declared.Cand.{Cand}
+use Rattle.rules.specs.Areas.{zeros}
 use Rattle.turns.specs.declared.Step.the-variants.{Put, FirstChoice}
 use Rattle.turns.specs.declared.Pass.{Pass}
 use Rattle.values.specs.Records.{candOf, cands}
@@ -31,7 +32,7 @@ use Rattle.sights.specs.Hanging.{Seen}
 
 -- ---- the passes of the entry
 abbrev pub driverPass : (rows : List ℕ) (due : List ℤ) (len : ℕ) → Pass
-driverPass rows due len = passOf (FirstChoice 0 (rowAt rows due 0 .resistance)) len 0 0 0 zeros (record { 0 = pos 0 })
+driverPass rows due len = passOf (FirstChoice (record { 0 = pos 0 }) (rowAt rows due 0 .resistance)) len 0 0 0 zeros (record { 0 = pos 0 })
 
 abbrev pub clearPass : Pass
 clearPass = passOf Put workRoom 0 0 0 zeros (record { 0 = pos 0 })
@@ -80,7 +81,7 @@ Told e before after r = (after ≡ written (fourOf (e .held .words)) before) × 
 -- ---- refusals
 abbrev pub Verdict : (types rows : List ℕ) (due : List ℤ) (count n placement work : ℕ) → Checking → Type 0
 Verdict types rows due count n placement work c =
-    cond (ltb placement placementRoom) (c ≡ Refused Short) (cond (ltb work workRoom) (c ≡ Refused Short) (CheckPromise (tablesOf types rows due) (countsOf count n) c))
+    cond (ltb placement placementRoom) (c ≡ Refused Short) (cond (ltb work workRoom) (c ≡ Refused Short) (CheckPromise (tabled (tablesOf types rows due) (countsOf count n)) c))
 
 abbrev pub isAccepted : Checking → Bool
 isAccepted Accepted = true

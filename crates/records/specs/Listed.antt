@@ -2,7 +2,7 @@
 use mathlib.Core.Path.{_≡_, refl, sym, ap, _∙_}
 use mathlib.Core.Bool.{Bool, true, false, cond, _||_}
 use mathlib.Core.List.{List, [], _∷_, _++_, map}
-use mathlib.Core.Option.{some}
+use mathlib.Core.Option.{some, orElse}
 use Prim.Native.Nat.{ℕ, zero, suc, _+_, _≤_, _<_}
 use native.Mathlib.Omega.{arith}
 use lib.Dec.{ltb, leb}
@@ -20,20 +20,21 @@ use Rattle.rules.specs.Quantities.{listRoom, workRoom}
 use Rattle.rules.specs.Entries.{Repeater}
 use Rattle.rules.specs.Pairs.{Pair}
 use Rattle.rules.specs.Answers.{listFigures}
-use Rattle.rules.specs.Promises.{CheckPromise, shortLent, listRefusal, ListOf, ListPromise, zeros, records}
+use Rattle.rules.specs.Promises.{CheckPromise, listRefusal, ListOf, ListPromise, tabled}
 use Rattle.laws.specs.Candidates.{Front}
 use Rattle.laws.specs.Method.{Reaches}
 use Rattle.laws.specs.Listing.{pairOf, front-pairs, listed-length}
 use Rattle.laws.specs.Walk.{seenAt, atRow-seen}
 use Rattle.laws.specs.Tabled.{rowsFrom, rows-length, repeatersFrom}
-use Rattle.laws.specs.Checked.{tablesOf, countsOf, Passed, passed-own, short-own, checked-stopped, checked-passed}
+use Rattle.laws.specs.Checked.{Passed, passed-own, short-own, checked-stopped, checked-passed}
 use Rattle.rows.specs.Given.{held}
 use Rattle.columns.specs.Parts.{part, part-length}
 use Rattle.columns.specs.Run.{Candidate}
 use Rattle.clearing.specs.Clearing.{cleared-written}
-use Rattle.chosen.specs.Lent.{lentOf}
 use Rattle.chosen.specs.Promised.{entriesOf, tree, tree-row, made-few}
 use Rattle.rules.specs.declared.Cand.{Cand}
+use Rattle.rules.specs.Areas.{shortLent, zeros, records, lentOf, listAreas}
+use Rattle.rules.specs.Tables.{tablesOf, countsOf}
 use Rattle.turns.specs.declared.Pass.{Pass}
 use Rattle.values.specs.Records.{cands}
 use Rattle.copying.specs.Copied.{copied, loadsOf, timesOf}
@@ -82,20 +83,20 @@ module _ (ts ws : List ℕ) (ds : List ℤ) (count n row : ℕ) (lls : List ℕ)
       there true f k = absurd (no NoRow k)
       there false f k = f refl
 
-      last : (checked : Checking) → CheckPromise (tablesOf ts ws ds) (countsOf count n) checked → RowVerdict ts ws ds count n row checked c → Passed (tablesOf ts ws ds) (countsOf count n) × (row < n)
+      last : (checked : Checking) → CheckPromise (tabled (tablesOf ts ws ds) (countsOf count n)) checked → RowVerdict ts ws ds count n row checked c → Passed (tablesOf ts ws ds) (countsOf count n) × (row < n)
       last (Refused r) p k = absurd (no r k)
       last Accepted p k = (checked-passed (tablesOf ts ws ds) (countsOf count n) Accepted p refl, there (leb n row) (leb-false n row) k)
 
       go : (a b d : Bool) → (a ≡ false → listRoom ≤ length lls) → (b ≡ false → listRoom ≤ length lts) → (d ≡ false → workRoom ≤ length w)
-          → cond a (c ≡ Refused Short) (cond b (c ≡ Refused Short) (cond d (c ≡ Refused Short) ((checked : Checking) × CheckPromise (tablesOf ts ws ds) (countsOf count n) checked × RowVerdict ts ws ds count n row checked c))) → Lists ws ds ts count n row w lls lts
+          → cond a (c ≡ Refused Short) (cond b (c ≡ Refused Short) (cond d (c ≡ Refused Short) ((checked : Checking) × CheckPromise (tabled (tablesOf ts ws ds) (countsOf count n)) checked × RowVerdict ts ws ds count n row checked c))) → Lists ws ds ts count n row w lls lts
       go true b d f g h k = absurd (no Short k)
       go false true d f g h k = absurd (no Short k)
       go false false true f g h k = absurd (no Short k)
       go false false false f g h k = let q = last (k .0) (k .1) (k .2) in record { loads = f refl; times = g refl; makes = record { passed = q .0; inside = q .1; long = h refl } }
 
   -- what is refused, in its order
-  stopped : (c : Checking) → ListVerdict ts ws ds count n row (length lls) (length lts) (length w) c → (r : Refusal) → c ≡ Refused r → listRefusal (shortLent (lentOf lls lts) || records .short w) (tablesOf ts ws ds) (countsOf count n) row ≡ some r
-  unfolding listRefusal shortLent records
+  stopped : (c : Checking) → ListVerdict ts ws ds count n row (length lls) (length lts) (length w) c → (r : Refusal) → c ≡ Refused r → listRefusal (shortLent (lentOf lls lts) || records .short w) (tabled (tablesOf ts ws ds) (countsOf count n)) row ≡ some r
+  unfolding listRefusal shortLent records orElse
   stopped c judged r e = go (ltb (length lls) listRoom) (ltb (length lts) listRoom) (ltb (length w) workRoom) judged
     where
       short : c ≡ Refused Short → r ≡ Short
@@ -111,14 +112,14 @@ module _ (ts ws : List ℕ) (ds : List ℤ) (count n row : ℕ) (lls : List ℕ)
           same q = cc
       there false k = absurd (differ r (sym k ∙ e))
 
-      last : (checked : Checking) → CheckPromise (tablesOf ts ws ds) (countsOf count n) checked → RowVerdict ts ws ds count n row checked c → listRefusal false (tablesOf ts ws ds) (countsOf count n) row ≡ some r
+      last : (checked : Checking) → CheckPromise (tabled (tablesOf ts ws ds) (countsOf count n)) checked → RowVerdict ts ws ds count n row checked c → listRefusal false (tabled (tablesOf ts ws ds) (countsOf count n)) row ≡ some r
       last (Refused d) p k = rw (checked-stopped (tablesOf ts ws ds) (countsOf count n) (Refused d) p d refl) (same (sym k ∙ e))
         where
           same : Refused d ≡ Refused r → some d ≡ some r
           same q = cc
       last Accepted p k = let q = there (leb n row) k in rw (passed-own (tablesOf ts ws ds) (countsOf count n) (checked-passed (tablesOf ts ws ds) (countsOf count n) Accepted p refl), q .0, q .1) refl
 
-      go : (a b d : Bool) → cond a (c ≡ Refused Short) (cond b (c ≡ Refused Short) (cond d (c ≡ Refused Short) ((checked : Checking) × CheckPromise (tablesOf ts ws ds) (countsOf count n) checked × RowVerdict ts ws ds count n row checked c))) → listRefusal ((a || b) || d) (tablesOf ts ws ds) (countsOf count n) row ≡ some r
+      go : (a b d : Bool) → cond a (c ≡ Refused Short) (cond b (c ≡ Refused Short) (cond d (c ≡ Refused Short) ((checked : Checking) × CheckPromise (tabled (tablesOf ts ws ds) (countsOf count n)) checked × RowVerdict ts ws ds count n row checked c))) → listRefusal ((a || b) || d) (tabled (tablesOf ts ws ds) (countsOf count n)) row ≡ some r
       go true b d k = rw (short k, short-own (tablesOf ts ws ds) (countsOf count n)) refl
       go false true d k = rw (short k, short-own (tablesOf ts ws ds) (countsOf count n)) refl
       go false false true k = rw (short k, short-own (tablesOf ts ws ds) (countsOf count n)) refl
@@ -169,7 +170,7 @@ module _ (ts ws : List ℕ) (ds : List ℤ) (count n row : ℕ) (lls : List ℕ)
       front =
           let z : 0 + len ≡ len = omega arith in
           let e : seenAt R row ≡ some (tree P row (f .makes .inside) .0) = sym (atRow-seen R row inside-R) ∙ tree P row (f .makes .inside) .1 in
-          rw (e, z) at (s .made .shows)
+          (rw (e, z) at (s .made .shows)) .front
 
       counted : length (part 0 len (cands v)) ≡ len
       counted = part-length 0 len (cands v) (rw (cands-length v) (omega (arith, long f, s .made .fits))) ∙ omega arith
@@ -188,16 +189,16 @@ module _ (ts ws : List ℕ) (ds : List ℤ) (count n row : ℕ) (lls : List ℕ)
 
   -- ---- the end
   module _ (c : Checking) (judged : ListVerdict ts ws ds count n row (length lls) (length lts) (length w) c) (x : List Cand) (lls′ : List ℕ) (lts′ : List ℤ) (len : ℕ) (I : ListedIf ws ds ts count n row w x lls lls′ lts lts′ c len) where
-    pub list-done : (r : Listing) → r ≡ answerOf c len → ListPromise records (tablesOf ts ws ds) (countsOf count n) row (lentOf lls lts) w r (lentOf lls′ lts′) x
-    unfolding ListPromise listFigures listRefusal shortLent records
+    pub list-done : (r : Listing) → r ≡ answerOf c len → ListPromise records (tabled (tablesOf ts ws ds) (countsOf count n)) row (listAreas (lentOf lls lts) w) r (listAreas (lentOf lls′ lts′) x)
+    unfolding ListPromise listFigures listRefusal shortLent records orElse
     list-done r r-is = by c refl (I .seen) (I .cleared)
       where
-        by : (d : Checking) → c ≡ d → SeenIf ws ds ts count n row w (I .run) d len → ClearedIf (I .run) x d → ListPromise records (tablesOf ts ws ds) (countsOf count n) row (lentOf lls lts) w r (lentOf lls′ lts′) x
+        by : (d : Checking) → c ≡ d → SeenIf ws ds ts count n row w (I .run) d len → ClearedIf (I .run) x d → ListPromise records (tabled (tablesOf ts ws ds) (countsOf count n)) row (listAreas (lentOf lls lts) w) r (listAreas (lentOf lls′ lts′) x)
         by Accepted e s k =
             let f = fine c judged e in
             let clear : x ≡ written (replicate workRoom zeros) w = k ∙ ap (λ (l : List Cand). replicate workRoom zeros ++ l) (s .beyond) ∙ cleared-written zeros workRoom w in
             rw (r-is, e, I .loads, I .times, le-ltb _ _ (f .loads), le-ltb _ _ (f .times), le-ltb _ _ (f .makes .long), passed-own (tablesOf ts ws ds) (countsOf count n) (f .makes .passed), lt-leb _ _ (f .makes .inside)) (len, refl, list-of (I .run) (I .same) len s f, clear)
-        by (Refused d) e s k = rw (r-is, e, stopped c judged d e, I .loads, I .times, s .1, k, s .0) (refl, refl, refl)
+        by (Refused d) e s k = rw (r-is, e, stopped c judged d e, I .loads, I .times, s .1, k, s .0) (refl, refl)
 
 -- ---- the room cleared
 pub clear-if-safe : {p : Pass} {w : List Cand} (c : Checking) → p ≡ clearOf c → ClearsIf w c → Safe p w

@@ -13,9 +13,9 @@ use Rattle.rules.specs.declared.Listing.the-variants.{Listed}
 use Rattle.rules.specs.declared.Listing.the-variants.{Refused as NotListed}
 use Rattle.rules.specs.declared.Refusal.the-variants.{Short, NoRow}
 use Rattle.rules.specs.Quantities.{listRoom, workRoom}
-use Rattle.rules.specs.Promises.{CheckPromise}
-use Rattle.laws.specs.Checked.{tablesOf, countsOf}
+use Rattle.rules.specs.Promises.{CheckPromise, tabled}
 use Rattle.rules.specs.declared.Cand.{Cand}
+use Rattle.rules.specs.Tables.{tablesOf, countsOf}
 use Rattle.turns.specs.declared.Pass.{Pass}
 use Rattle.copying.specs.Copied.{copied, loadsOf, timesOf}
 use Rattle.sights.specs.Hanging.{Makes, Seen}
@@ -37,7 +37,7 @@ RowVerdict types rows due count n row Accepted c = c ≡ cond (leb n row) (Refus
 abbrev pub ListVerdict : (types rows : List ℕ) (due : List ℤ) (count n row loads times work : ℕ) → Checking → Type 0
 ListVerdict types rows due count n row loads times work c =
     cond (ltb loads listRoom) (c ≡ Refused Short) (cond (ltb times listRoom) (c ≡ Refused Short) (cond (ltb work workRoom) (c ≡ Refused Short)
-    ((checked : Checking) × CheckPromise (tablesOf types rows due) (countsOf count n) checked × RowVerdict types rows due count n row checked c)))
+    ((checked : Checking) × CheckPromise (tabled (tablesOf types rows due) (countsOf count n)) checked × RowVerdict types rows due count n row checked c)))
 
 abbrev pub MakesIf : (rows : List ℕ) (due : List ℤ) (types : List ℕ) (count n row : ℕ) (w : List Cand) → Checking → Type 0
 MakesIf rows due types count n row w c = cond (isAccepted c) (Makes rows due types count n row w) (Unit {0})

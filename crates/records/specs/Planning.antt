@@ -16,12 +16,12 @@ use Rattle.rules.specs.declared.Refusal.{Refusal}
 use Rattle.rules.specs.declared.Refusal.the-variants.{Short}
 use Rattle.rules.specs.Quantities.{mostOhms, placementRoom, workRoom}
 use Rattle.rules.specs.Answers.{planFigures}
-use Rattle.rules.specs.Promises.{CheckPromise, shortPlacement, tablesRefusal, PlanOf, PlanPromise, zeros, records}
+use Rattle.rules.specs.Promises.{CheckPromise, PlanOf, PlanPromise, netRefusal, tabled}
 use Rattle.laws.specs.Steps.{best, value}
 use Rattle.laws.specs.Rows.{row-in}
 use Rattle.laws.specs.Walk.{noRow}
 use Rattle.laws.specs.Tabled.{rowAt, rows-length}
-use Rattle.laws.specs.Checked.{tablesOf, countsOf, Passed, passed-own, short-own, checked-stopped, checked-passed}
+use Rattle.laws.specs.Checked.{Passed, passed-own, short-own, checked-stopped, checked-passed}
 use Rattle.rows.specs.Links.{row-is}
 use Rattle.rows.specs.Given.{standing, net-accepted}
 use Rattle.columns.specs.Parts.{part}
@@ -32,10 +32,13 @@ use Rattle.clearing.specs.Clearing.{cleared-written}
 use Rattle.picked.specs.Picked.{Choice}
 use Rattle.chosen.specs.Promised.{entriesOf, timingOf, made-stand, plan-of}
 use Rattle.rules.specs.declared.Cand.{Cand}
+use Rattle.rules.specs.Areas.{shortPlacement, zeros, records, planAreas}
+use Rattle.rules.specs.Tables.{tablesOf, countsOf}
 use Rattle.turns.specs.declared.Pass.{Pass}
 use Rattle.values.specs.Records.{candOf, cands}
 use Rattle.runs.specs.Cands.{cands-length}
 use Rattle.runs.specs.Passes.{Safe, Swept}
+use Rattle.units.specs.Times.{own-of}
 use Rattle.runs.specs.Choices.{choices-safe, choices-swept}
 use Rattle.runs.specs.Puts.{puts-safe, puts-clear}
 use Rattle.sights.specs.Hanging.{Makes, Seen}
@@ -63,14 +66,14 @@ module _ (ws : List ℕ) (ds : List ℤ) (ts : List ℕ) (count n : ℕ) (w : Li
     plans-chooses = record {
       words = omega (arith, standing (P .passed));
       times = omega (arith, standing (P .passed));
-      safe = choices-safe 0 (rowAt ws ds 0 .resistance) (omega arith) ohms v 0 len zeros (record { 0 = pos 0 }) long stand;
+      safe = choices-safe (record { 0 = pos 0 }) (rowAt ws ds 0 .resistance) (own-of 0 (omega arith)) ohms v 0 len zeros (record { 0 = pos 0 }) long stand;
     }
 
     module _ (u : List Cand) (same₂ : length u ≡ length w) (e : Pass) (E : Swept (driverPass ws ds len) v e u) where
       held : (u ≡ v) × (candOf (e .held) ≡ best (λ m. rowAt ws ds 0 .resistance .0 * m) (getD (cands v) 0 blank) (part 1 len (cands v))) × (e .worth .0 ≡ value (λ m. rowAt ws ds 0 .resistance .0 * m) (best (λ m. rowAt ws ds 0 .resistance .0 * m) (getD (cands v) 0 blank) (part 1 len (cands v))))
       held =
           let z : 0 + len ≡ len = omega arith in
-          rw (delay-driver (rowAt ws ds 0 .resistance .0), z) at (choices-swept 0 (rowAt ws ds 0 .resistance) (omega arith) ohms v 0 len zeros (record { 0 = pos 0 }) long stand E)
+          rw (delay-driver (rowAt ws ds 0 .resistance .0), z) at (choices-swept (record { 0 = pos 0 }) (rowAt ws ds 0 .resistance) (own-of 0 (omega arith)) ohms v 0 len zeros (record { 0 = pos 0 }) long stand E)
 
       pub plans-clears : workRoom ≤ length u
       plans-clears = rw same₂ (P .long)
@@ -109,7 +112,7 @@ module _ (ts ws : List ℕ) (ds : List ℤ) (count n : ℕ) (before : List ℕ) 
         no : c ≡ Refused Short → ⊥
         no e = clash (rw e at yes)
 
-        go : (a b : Bool) → (a ≡ false → placementRoom ≤ length before) → (b ≡ false → workRoom ≤ length w) → cond a (c ≡ Refused Short) (cond b (c ≡ Refused Short) (CheckPromise (tablesOf ts ws ds) (countsOf count n) c)) → (placementRoom ≤ length before) × ((workRoom ≤ length w) × Passed (tablesOf ts ws ds) (countsOf count n))
+        go : (a b : Bool) → (a ≡ false → placementRoom ≤ length before) → (b ≡ false → workRoom ≤ length w) → cond a (c ≡ Refused Short) (cond b (c ≡ Refused Short) (CheckPromise (tabled (tablesOf ts ws ds) (countsOf count n)) c)) → (placementRoom ≤ length before) × ((workRoom ≤ length w) × Passed (tablesOf ts ws ds) (countsOf count n))
         go true b f g v = absurd (no v)
         go false true f g v = absurd (no v)
         go false false f g v = (f refl, (g refl, checked-passed (tablesOf ts ws ds) (countsOf count n) c v (accepted c yes)))
@@ -134,7 +137,7 @@ module _ (ts ws : List ℕ) (ds : List ℤ) (count n : ℕ) (before : List ℕ) 
       plan : PlanOf (entriesOf ts ws ds count n) before after (timingOf (e .worth .0) (e .held .load .0))
       plan = plan-of P 0 (omega (arith, standing P)) (cands w) (cands (C .run)) (rw (cands-length (C .run)) (C .long)) (C .len) (C .seen .made) refl before after (e .worth .0) (e .held .load .0) choice
 
-      plan-done : PlanPromise records (tablesOf ts ws ds) (countsOf count n) before w r after w′
+      plan-done : PlanPromise records (tabled (tablesOf ts ws ds) (countsOf count n)) (planAreas before w) r (planAreas after w′)
       unfolding PlanPromise planFigures records
       plan-done = rw (D .1, le-ltb _ _ (rooms .0), le-ltb _ _ (rooms .1 .0), passed-own (tablesOf ts ws ds) (countsOf count n) P) (timingOf (e .worth .0) (e .held .load .0), refl, plan, C .cleared)
 
@@ -153,7 +156,7 @@ module _ (ts ws : List ℕ) (ds : List ℤ) (count n : ℕ) (before : List ℕ) 
       by (Refused d) e = tt
 
   module _ (w′ : List Cand) (e : Pass) (C : ChoseIf ws ds ts count n w w′ c e) (after : List ℕ) (r : Planning) (D : ToldIf c e before after r) where
-    stopped : (d : Refusal) → c ≡ Refused d → tablesRefusal (shortPlacement before || records .short w) (tablesOf ts ws ds) (countsOf count n) ≡ some d
+    stopped : (d : Refusal) → c ≡ Refused d → netRefusal (shortPlacement before || records .short w) (tabled (tablesOf ts ws ds) (countsOf count n)) ≡ some d
     unfolding records
     stopped d e = go (ltb (length before) placementRoom) (ltb (length w) workRoom) judged
       where
@@ -163,15 +166,15 @@ module _ (ts ws : List ℕ) (ds : List ℤ) (count n : ℕ) (before : List ℕ) 
             same : Refused d ≡ Refused Short → d ≡ Short
             same q = cc
 
-        go : (a b : Bool) → cond a (c ≡ Refused Short) (cond b (c ≡ Refused Short) (CheckPromise (tablesOf ts ws ds) (countsOf count n) c)) → tablesRefusal (a || b) (tablesOf ts ws ds) (countsOf count n) ≡ some d
+        go : (a b : Bool) → cond a (c ≡ Refused Short) (cond b (c ≡ Refused Short) (CheckPromise (tabled (tablesOf ts ws ds) (countsOf count n)) c)) → netRefusal (a || b) (tabled (tablesOf ts ws ds) (countsOf count n)) ≡ some d
         go true b v = rw (short v) (short-own (tablesOf ts ws ds) (countsOf count n))
         go false true v = rw (short v) (short-own (tablesOf ts ws ds) (countsOf count n))
         go false false v = checked-stopped (tablesOf ts ws ds) (countsOf count n) c v d e
 
-    pub plan-told : PlanPromise records (tablesOf ts ws ds) (countsOf count n) before w r after w′
+    pub plan-told : PlanPromise records (tabled (tablesOf ts ws ds) (countsOf count n)) (planAreas before w) r (planAreas after w′)
     unfolding PlanPromise planFigures
     plan-told = by c refl C D
       where
-        by : (d : Checking) → c ≡ d → ChoseIf ws ds ts count n w w′ d e → ToldIf d e before after r → PlanPromise records (tablesOf ts ws ds) (countsOf count n) before w r after w′
+        by : (d : Checking) → c ≡ d → ChoseIf ws ds ts count n w w′ d e → ToldIf d e before after r → PlanPromise records (tabled (tablesOf ts ws ds) (countsOf count n)) (planAreas before w) r (planAreas after w′)
         by Accepted f chosen told = plan-done (ap isAccepted f) w′ e chosen after r told
-        by (Refused d) f same told = rw (stopped d f, told .1, told .0, same) (refl, refl, refl)
+        by (Refused d) f same told = rw (stopped d f, told .1, told .0, same) (refl, refl)

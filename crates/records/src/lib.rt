@@ -10,10 +10,10 @@ use turns::Step;
 ghost use mathlib.Core.Path.{_≡_};
 ghost use Prim.Native.Nat.{_≤_};
 ghost use lib.ListN.{length};
-ghost use Rattle.rules.specs.Tables.{rowWords};
-ghost use Rattle.rules.specs.Promises.{PlanPromise, records};
-ghost use Rattle.laws.specs.Checked.{tablesOf, countsOf};
+ghost use Rattle.rules.specs.Tables.{rowWords, tablesOf, countsOf};
+ghost use Rattle.rules.specs.Promises.{PlanPromise, tabled};
 ghost use Rattle.rules.specs.Quantities.{placementRoom, workRoom};
+ghost use Rattle.rules.specs.Areas.{records, planAreas};
 ghost use Rattle.runs.specs.Passes.{Swept};
 ghost use Rattle.records.specs.Entries.{driverPass, clearPass, idlePass, Chooses, cleared, Plans, Chose, PlansIf, ChoseIf, FourIf, Told, ToldIf, Verdict, isAccepted};
 
@@ -27,7 +27,15 @@ fn driver_pass(rows: &[u32], due: &[i64], len: usize) -> Pass
     let driver = rows::row_at(rows, due, 0);
     let r = driver.resistance;
     let none = values::blank();
-    turns::pass_at(Step::FirstChoice(0, r), len, 0, 0, 0, none, Femtosecond(0))
+    turns::pass_at(
+        Step::FirstChoice(Femtosecond(0), r),
+        len,
+        0,
+        0,
+        0,
+        none,
+        Femtosecond(0),
+    )
 }
 
 // Zeros over the room.
@@ -169,7 +177,7 @@ pub fn plan_records(
     placement: &mut [u64],
     work: &mut [Cand],
 ) -> Planning
-    ensures { λ r. ⌜ PlanPromise records (tablesOf (now (types .entry)) (now (rows .entry)) (now (due .entry))) (countsOf «type_count» «row_count») (now (placement .entry)) (now (work .entry)) r (now (placement .exit)) (now (work .exit)) ⌝ }
+    ensures { λ r. ⌜ PlanPromise records (tabled (tablesOf (now (types .entry)) (now (rows .entry)) (now (due .entry))) (countsOf «type_count» «row_count»)) (planAreas (now (placement .entry)) (now (work .entry))) r (planAreas (now (placement .exit)) (now (work .exit))) ⌝ }
 {
     let verdict = judge(
         types,

@@ -8,9 +8,9 @@ ghost use mathlib.Core.Path.{_≡_};
 ghost use Prim.Native.Nat.{_≤_};
 ghost use lib.ListN.{length};
 ghost use Rattle.rules.specs.Quantities.{listRoom};
-ghost use Rattle.rules.specs.Promises.{ListPromise, records};
-ghost use Rattle.laws.specs.Checked.{tablesOf, countsOf};
-ghost use Rattle.chosen.specs.Lent.{lentOf};
+ghost use Rattle.rules.specs.Promises.{ListPromise, tabled};
+ghost use Rattle.rules.specs.Areas.{records, lentOf, listAreas};
+ghost use Rattle.rules.specs.Tables.{tablesOf, countsOf};
 ghost use Rattle.records.specs.Listings.{clearOf, ListVerdict, answerOf, MakesIf, SeenIf, ClearsIf, ClearedIf, ListsIf, ListedIf};
 
 // Refusal 7 for the entry's own areas comes first, and 8 last.
@@ -131,7 +131,7 @@ pub fn list_records(
     list_times: &mut [i64],
     work: &mut [Cand],
 ) -> Listing
-    ensures { λ r. ⌜ ListPromise records (tablesOf (now (types .entry)) (now (rows .entry)) (now (due .entry))) (countsOf «type_count» «row_count») row (lentOf (now («list_loads» .entry)) (now («list_times» .entry))) (now (work .entry)) r (lentOf (now («list_loads» .exit)) (now («list_times» .exit))) (now (work .exit)) ⌝ }
+    ensures { λ r. ⌜ ListPromise records (tabled (tablesOf (now (types .entry)) (now (rows .entry)) (now (due .entry))) (countsOf «type_count» «row_count»)) row (listAreas (lentOf (now («list_loads» .entry)) (now («list_times» .entry))) (now (work .entry))) r (listAreas (lentOf (now («list_loads» .exit)) (now («list_times» .exit))) (now (work .exit))) ⌝ }
 {
     let verdict = judge_list(
         types,

@@ -1,8 +1,15 @@
-// The rooms of lent areas, the words of what stands in them, and whether an area is shorter than its room.
+// The rooms of lent areas, the words of what stands in them, and whether an area is shorter than its room, or a text longer.
+use rules::Checking;
+use rules::Refusal;
 ghost use mathlib.Core.Path.{_≡_};
 ghost use lib.Dec.{ltb};
 ghost use Rattle.rules.specs.Quantities.{placementRoom, listRoom, workRoom};
-ghost use Rattle.rooms.specs.Rooms.{shortTablesBy, shortBy, shortListBy};
+ghost use Rattle.rooms.specs.Rooms.{shortTablesBy, unread, shortBy, shortListBy};
+
+pub mod links;
+pub mod ranges;
+pub mod wide;
+pub mod words;
 
 // Bytes of a text.
 pub const TEXT_ROOM: usize = 32_768;
@@ -20,6 +27,9 @@ pub const PLACEMENT_ROOM: usize = 4;
 pub const LIST_ROOM: usize = 257;
 
 pub const WORK_ROOM: usize = 768;
+
+// Words of an exported call's answer.
+pub const ANSWER_ROOM: usize = 3;
 
 // Words of a type and of a row in the tables.
 pub const TYPE_WORDS: usize = 3;
@@ -44,6 +54,20 @@ pub fn short_tables(types: usize, rows: usize, due: usize) -> bool
         return true;
     }
     due < ROWS_ROOM
+}
+
+// What a text is refused for before any line of it is read: 7 for an area that is lent, then its length.
+pub fn check_text(short: bool, bytes: usize) -> Checking
+    ensures { λ r. ⌜ r ≡ unread short bytes ⌝ }
+{
+    let long = TEXT_ROOM < bytes;
+    if short {
+        return Checking::Refused(Refusal::Short);
+    }
+    if long {
+        return Checking::Refused(Refusal::Room(0));
+    }
+    Checking::Accepted
 }
 
 // Whether a placement has fewer words than its four.

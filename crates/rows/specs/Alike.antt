@@ -1,6 +1,6 @@
--- Two trees that differ only in the order of what hangs beside each other: no placement, load, time or size tells one from the other.
--- Assumes nothing.
-use mathlib.Core.Path.{_≡_, refl, sym, ap, _∙_}
+-- Two trees that differ only in the order of what hangs beside each other: no placement, load, time or size tells one from the other,
+-- nor does the method's list, the placements that it carries included. Assumes nothing.
+use mathlib.Core.Path.{_≡_, refl, sym, ap, ap₂, _∙_}
 use mathlib.Core.List.{List, []}
 use mathlib.Core.Logic.{_⊎_, inl, inr, ⊎-elim}
 use mathlib.Core.Option.{Option, none, some}
@@ -10,9 +10,15 @@ use lib.IntN.{ℤ}
 use Rattle.rules.specs.Entries.{Repeater}
 use Rattle.rules.specs.Placements.{Placement}
 use Rattle.rules.specs.Net.{Tree, beside}
-use Rattle.rules.specs.Slack.{load}
+use Rattle.rules.specs.Slack.{loadOf}
 use Rattle.rules.specs.Pairs.{sitesOn}
-use Rattle.laws.specs.Integers.{minℤ, min-lesser, min-greatest, ≤-antisym, ≤-trans}
+use Rattle.laws.specs.Lists.{EveryTwo}
+use Rattle.laws.specs.Integers.{minℤ, min-swap, min-turn}
+use Rattle.laws.specs.Candidates.{Cand, Below}
+use Rattle.laws.specs.Steps.{merge, merge-rising}
+use Rattle.laws.specs.Joining.{joinMarks}
+use Rattle.laws.specs.Merging.{merge-swap, merge-turn, join-swap, join-turn}
+use Rattle.laws.specs.Method.{frontOf, method}
 use Rattle.laws.specs.Trees.{time}
 use Rattle.laws.specs.Ranges.{weight, stages}
 use Rattle.laws.specs.Hanging.{OnIf, ProperIf}
@@ -36,8 +42,8 @@ time-beside types p none v = refl
 time-beside types p (some s) none = refl
 time-beside types p (some s) (some t) = refl
 
-load-beside : (types : List Repeater) (p : Placement) (u v : Option Tree) → over (load types p) (beside u v) ≡ over (load types p) u + over (load types p) v
-unfolding load
+load-beside : (types : List Repeater) (p : Placement) (u v : Option Tree) → over (loadOf types p) (beside u v) ≡ over (loadOf types p) u + over (loadOf types p) v
+unfolding loadOf
 load-beside types p none v = omega arith
 load-beside types p (some s) none = omega arith
 load-beside types p (some s) (some t) = omega arith
@@ -100,20 +106,6 @@ proper-beside (some s) none a p q = p
 proper-beside (some s) (some t) a p q = (a, p, q)
 
 -- ---- times in another order
-min-swap : (a b : ℤ) → minℤ a b ≡ minℤ b a
-min-swap a b =
-    let l = min-lesser a b in
-    let r = min-lesser b a in
-    ≤-antisym (min-greatest (l .right) (l .left)) (min-greatest (r .right) (r .left))
-
-min-turn : (a b c : ℤ) → minℤ (minℤ a b) c ≡ minℤ b (minℤ a c)
-min-turn a b c =
-    let ab = min-lesser a b in
-    let ab-c = min-lesser (minℤ a b) c in
-    let ac = min-lesser a c in
-    let b-ac = min-lesser b (minℤ a c) in
-    ≤-antisym (min-greatest (≤-trans (ab-c .left) (ab .right)) (min-greatest (≤-trans (ab-c .left) (ab .left)) (ab-c .right))) (min-greatest (min-greatest (≤-trans (b-ac .right) (ac .left)) (b-ac .left)) (≤-trans (b-ac .right) (ac .right)))
-
 lesser-swap : (a b : Option ℤ) → lesser a b ≡ lesser b a
 lesser-swap none none = refl
 lesser-swap none (some b) = refl
@@ -124,14 +116,62 @@ lesser-turn : (a b c : Option ℤ) → lesser (lesser a b) c ≡ lesser b (lesse
 lesser-turn none b c = refl
 lesser-turn (some a) none c = refl
 lesser-turn (some a) (some b) none = ap some (min-swap a b)
-lesser-turn (some a) (some b) (some c) = ap some (min-turn a b c)
+lesser-turn (some a) (some b) (some c) = ap some (ap (λ m. minℤ m c) (min-swap a b) ∙ min-turn b a c)
+
+-- ---- the method's lists in another order, the placements that they carry included
+abbrev Lists : Type 0
+Lists = Option (List (Cand Placement))
+
+abbrev pub listIf : List Repeater → Option Tree → Option (List (Cand Placement))
+listIf types none = none
+listIf types (some t) = some (frontOf types t)
+
+abbrev met : Lists → Lists → Lists
+met none b = b
+met (some a) none = some a
+met (some a) (some b) = some (merge joinMarks a b)
+
+abbrev Rises : Lists → Type 0
+Rises none = Unit {0}
+Rises (some l) = EveryTwo Below l
+
+list-beside : (types : List Repeater) (u v : Option Tree) → listIf types (beside u v) ≡ met (listIf types u) (listIf types v)
+unfolding frontOf
+list-beside types none v = refl
+list-beside types (some s) none = refl
+list-beside types (some s) (some t) = refl
+
+list-rises : (types : List Repeater) (u : Option Tree) → ProperIf u → Rises (listIf types u)
+list-rises types none p = tt
+list-rises types (some t) p = method types t p .rising
+
+met-rises : (a b : Lists) → Rises a → Rises b → Rises (met a b)
+met-rises none b p q = q
+met-rises (some a) none p q = p
+met-rises (some a) (some b) p q = merge-rising joinMarks p q
+
+met-swap : (a b : Lists) → Rises a → Rises b → met a b ≡ met b a
+met-swap none none p q = refl
+met-swap none (some b) p q = refl
+met-swap (some a) none p q = refl
+met-swap (some a) (some b) p q = ap some (merge-swap joinMarks join-swap join-turn p q)
+
+met-turn : (a b c : Lists) → Rises a → Rises b → Rises c → met (met a b) c ≡ met b (met a c)
+met-turn none b c p q r = refl
+met-turn (some a) none c p q r = refl
+met-turn (some a) (some b) none p q r = ap some (merge-swap joinMarks join-swap join-turn p q)
+met-turn (some a) (some b) (some c) p q r = ap some (ap (λ l. merge joinMarks l c) (merge-swap joinMarks join-swap join-turn p q) ∙ merge-turn joinMarks join-swap join-turn q p r)
+
+met-second : (a b c d : Lists) → Rises a → Rises b → Rises c → Rises d → met (met a (met b c)) d ≡ met (met a c) (met b d)
+met-second a b c d p q r s = met-turn a (met b c) d p (met-rises b c q r) s ∙ met-turn b c (met a d) q r (met-rises a d p s) ∙ ap (met c) (sym (met-turn a b d p q s) ∙ ap (λ z. met z d) (met-swap a b p q) ∙ met-turn b a d q p s) ∙ sym (met-turn a c (met b d) p r (met-rises b d q s))
 
 -- ---- alike
 pub record Alike (u v : Option Tree) : Type 0 where
   pub on : (j : ℕ) → OnIf u j → OnIf v j
   pub back : (j : ℕ) → OnIf v j → OnIf u j
-  pub load : (types : List Repeater) (p : Placement) → over (load types p) u ≡ over (load types p) v
+  pub load : (types : List Repeater) (p : Placement) → over (loadOf types p) u ≡ over (loadOf types p) v
   pub time : (types : List Repeater) (p : Placement) → timeIf types p u ≡ timeIf types p v
+  pub list : (types : List Repeater) → ProperIf v → listIf types u ≡ listIf types v
   pub sites : over sitesOn u ≡ over sitesOn v
   pub weight : over weight u ≡ over weight v
   pub stages : over stages u ≡ over stages v
@@ -139,7 +179,7 @@ pub record Alike (u v : Option Tree) : Type 0 where
   pub proper : ProperIf v → ProperIf u
 
 pub alike-same : (u : Option Tree) → Alike u u
-alike-same u = record { on = λ j o. o; back = λ j o. o; load = λ types p. refl; time = λ types p. refl; sites = refl; weight = refl; stages = refl; inside = λ i. i; proper = λ p. p }
+alike-same u = record { on = λ j o. o; back = λ j o. o; load = λ types p. refl; time = λ types p. refl; list = λ types p. refl; sites = refl; weight = refl; stages = refl; inside = λ i. i; proper = λ p. p }
 
 pub alike-then : {u v x : Option Tree} → Alike u v → Alike v x → Alike u x
 alike-then a b = record {
@@ -147,6 +187,7 @@ alike-then a b = record {
   back = λ j o. a .back j (b .back j o);
   load = λ types p. a .load types p ∙ b .load types p;
   time = λ types p. a .time types p ∙ b .time types p;
+  list = λ types p. a .list types (b .proper p) ∙ b .list types p;
   sites = a .sites ∙ b .sites;
   weight = a .weight ∙ b .weight;
   stages = a .stages ∙ b .stages;
@@ -167,8 +208,9 @@ pub alike-first : (x u v : Option Tree) → Alike (beside (beside x u) v) (besid
 alike-first x u v = record {
   on = λ j o. ⊎-elim (λ a. ⊎-elim (λ b. on-right u (beside x v) j (on-left x v j b)) (λ b. on-left u (beside x v) j b) (on-either x u j a)) (λ a. on-right u (beside x v) j (on-right x v j a)) (on-either (beside x u) v j o);
   back = λ j o. ⊎-elim (λ a. on-left (beside x u) v j (on-right x u j a)) (λ a. ⊎-elim (λ b. on-left (beside x u) v j (on-left x u j b)) (λ b. on-right (beside x u) v j b) (on-either x v j a)) (on-either u (beside x v) j o);
-  load = λ types p. moved-over (load types p) (load-beside types p) x u v;
+  load = λ types p. moved-over (loadOf types p) (load-beside types p) x u v;
   time = λ types p. times types p;
+  list = λ types p. lists types (proper-parts u (beside x v) p);
   sites = moved-over sitesOn sites-beside x u v;
   weight = moved-over weight weight-beside x u v;
   stages = moved-over stages stages-beside x u v;
@@ -178,6 +220,11 @@ alike-first x u v = record {
   where
     times : (types : List Repeater) (p : Placement) → timeIf types p (beside (beside x u) v) ≡ timeIf types p (beside u (beside x v))
     times types p = rw (time-beside types p (beside x u) v, time-beside types p x u, time-beside types p u (beside x v), time-beside types p x v) (lesser-turn (timeIf types p x) (timeIf types p u) (timeIf types p v))
+
+    lists : (types : List Repeater) → Apart u (beside x v) × (ProperIf u × ProperIf (beside x v)) → listIf types (beside (beside x u) v) ≡ listIf types (beside u (beside x v))
+    lists types (a, (p, q)) =
+        let (b, (r, s)) = proper-parts x v q in
+        list-beside types (beside x u) v ∙ ap (λ z. met z (listIf types v)) (list-beside types x u) ∙ met-turn (listIf types x) (listIf types u) (listIf types v) (list-rises types x r) (list-rises types u p) (list-rises types v s) ∙ ap (met (listIf types u)) (sym (list-beside types x v)) ∙ sym (list-beside types u (beside x v))
 
     propers : Apart u (beside x v) × (ProperIf u × ProperIf (beside x v)) → ProperIf (beside (beside x u) v)
     propers (a, (p, q)) =
@@ -192,8 +239,9 @@ pub alike-second : (h x u v : Option Tree) → Alike (beside (beside h (beside x
 alike-second h x u v = record {
   on = λ j o. ⊎-elim (λ a. ⊎-elim (λ b. on-left (beside h u) (beside x v) j (on-left h u j b)) (λ b. ⊎-elim (λ c. on-right (beside h u) (beside x v) j (on-left x v j c)) (λ c. on-left (beside h u) (beside x v) j (on-right h u j c)) (on-either x u j b)) (on-either h (beside x u) j a)) (λ a. on-right (beside h u) (beside x v) j (on-right x v j a)) (on-either (beside h (beside x u)) v j o);
   back = λ j o. ⊎-elim (λ a. on-left (beside h (beside x u)) v j (⊎-elim (λ b. on-left h (beside x u) j b) (λ b. on-right h (beside x u) j (on-right x u j b)) (on-either h u j a))) (λ a. ⊎-elim (λ b. on-left (beside h (beside x u)) v j (on-right h (beside x u) j (on-left x u j b))) (λ b. on-right (beside h (beside x u)) v j b) (on-either x v j a)) (on-either (beside h u) (beside x v) j o);
-  load = λ types p. second-over (load types p) (load-beside types p) h x u v;
+  load = λ types p. second-over (loadOf types p) (load-beside types p) h x u v;
   time = λ types p. times types p;
+  list = λ types p. lists types (proper-parts (beside h u) (beside x v) p);
   sites = second-over sitesOn sites-beside h x u v;
   weight = second-over weight weight-beside h x u v;
   stages = second-over stages stages-beside h x u v;
@@ -206,6 +254,12 @@ alike-second h x u v = record {
 
     times : (types : List Repeater) (p : Placement) → timeIf types p (beside (beside h (beside x u)) v) ≡ timeIf types p (beside (beside h u) (beside x v))
     times types p = rw (time-beside types p (beside h (beside x u)) v, time-beside types p h (beside x u), time-beside types p x u, time-beside types p (beside h u) (beside x v), time-beside types p h u, time-beside types p x v) (turned (timeIf types p h) (timeIf types p x) (timeIf types p u) (timeIf types p v))
+
+    lists : (types : List Repeater) → Apart (beside h u) (beside x v) × (ProperIf (beside h u) × ProperIf (beside x v)) → listIf types (beside (beside h (beside x u)) v) ≡ listIf types (beside (beside h u) (beside x v))
+    lists types (a, (p, q)) =
+        let (b, (r, s)) = proper-parts h u p in
+        let (c, (y, z)) = proper-parts x v q in
+        list-beside types (beside h (beside x u)) v ∙ ap (λ k. met k (listIf types v)) (list-beside types h (beside x u) ∙ ap (met (listIf types h)) (list-beside types x u)) ∙ met-second (listIf types h) (listIf types x) (listIf types u) (listIf types v) (list-rises types h r) (list-rises types x y) (list-rises types u s) (list-rises types v z) ∙ ap₂ met (sym (list-beside types h u)) (sym (list-beside types x v)) ∙ sym (list-beside types (beside h u) (beside x v))
 
     propers : Apart (beside h u) (beside x v) × (ProperIf (beside h u) × ProperIf (beside x v)) → ProperIf (beside (beside h (beside x u)) v)
     propers (a, (p, q)) =

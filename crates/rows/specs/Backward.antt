@@ -1,4 +1,4 @@
--- Where the rows below each row stand, chained in some order: for each row the first of the rows below it, the row behind each row below the
+-- Where the rows below each row stand, chained in some order: for each row the first of the rows below it, the row after each row below the
 -- same parent, and how many sites come before it; and the loop that finds them. Assumes nothing.
 use mathlib.Core.Path.{_≡_, refl, sym, ap, _∙_}
 use mathlib.Core.Bool.{cond}
@@ -10,11 +10,13 @@ use native.Mathlib.Decide.{ℕ-discrete}
 use lib.Dec.{eqb}
 use lib.ListN.{length, getD, set, length-set}
 use lib.Seq.{getD-set-same, getD-set-other}
+use Rattle.rules.specs.Quantities.{rowsRoom}
 use Rattle.rules.specs.declared.Row.{Row}
 use Rattle.rules.specs.Net.{Tree, wireOf, wired, beside}
+use Rattle.rooms.specs.Links.{nextAt, sitesAt, linksRoom}
 use Rattle.laws.specs.Tests.{same, other, cond-yes, cond-no}
 use Rattle.laws.specs.Walk.{noRow, sitesBefore, sitesBefore-zero, under, seenAt, under-taken, under-passed}
-use Rattle.rows.specs.Links.{Earlier, nextAt, sitesAt, linksRoom}
+use Rattle.rows.specs.Links.{Earlier}
 use Rattle.rows.specs.Alike.{Alike, alike-same, alike-then, alike-first, alike-second}
 
 -- a row behind its wire
@@ -39,10 +41,10 @@ pub record Backward (rows : List Row) (links : List ℕ) : Type 0 where
   pub below : (p : ℕ) → p < length rows → Chained rows links p (length rows)
   pub sites : (j : ℕ) → j < length rows → getD links (sitesAt + j) 0 ≡ sitesBefore rows j
 
--- where a row may be put into the links: as the first below p, or behind the first
+-- where a row may be put into the links: as the first below p, or after the first
 pub data Slot (links : List ℕ) (n p q : ℕ) : Type 0 where
   first : q ≡ p → Slot links n p q
-  behind : getD links p 0 < n → q ≡ nextAt + getD links p 0 → Slot links n p q
+  second : getD links p 0 < n → q ≡ nextAt + getD links p 0 → Slot links n p q
 
 -- ---- how many rows the links lead to
 unfoldable pub rowsLeft : (links : List ℕ) (n most c : ℕ) → ℕ
@@ -104,7 +106,7 @@ backing-start rows links links′ k one long q e = rw q (record {
     sites j z = rw z (getD-set-same (set links 0 (length rows)) sitesAt 0 0 (rw length-set (omega arith)) ∙ sym (sitesBefore-zero rows))
 
 -- row i is put in at place q, below its parent p
-module _ (rows : List Row) (links : List ℕ) (i k p q : ℕ) (E : Earlier rows) (B : Backing rows links i k) (one : 1 ≤ i) (few : length rows ≤ 256) (more : i < length rows) (p-is : p ≡ getD rows i noRow .parent) where
+module _ (rows : List Row) (links : List ℕ) (i k p q : ℕ) (E : Earlier rows) (B : Backing rows links i k) (one : 1 ≤ i) (few : length rows ≤ rowsRoom) (more : i < length rows) (p-is : p ≡ getD rows i noRow .parent) where
   early : p < i
   early = rw p-is (E i one more)
 
@@ -137,7 +139,7 @@ module _ (rows : List Row) (links : List ℕ) (i k p q : ℕ) (E : Earlier rows)
   at-sites = getD-set-same three-set (sitesAt + i) k 0 (omega (arith, length-three))
 
   -- the place is that of an earlier row
-  module _ (low : q < sitesAt) (not-row : ¬ (q ≡ i)) (not-behind : ¬ (q ≡ nextAt + i)) where
+  module _ (low : q < sitesAt) (not-row : ¬ (q ≡ i)) (not-past : ¬ (q ≡ nextAt + i)) where
     at-next : getD after (nextAt + i) 0 ≡ getD links q 0
     at-next = getD-set-other three-set (sitesAt + i) (nextAt + i) k 0 (omega arith) ∙ getD-set-other two-set i (nextAt + i) (length rows) 0 (omega arith) ∙ getD-set-other one-set q (nextAt + i) i 0 (omega arith) ∙ getD-set-same links (nextAt + i) (getD links q 0) 0 (omega (arith, B .long))
 
@@ -184,7 +186,7 @@ module _ (rows : List Row) (links : List ℕ) (i k p q : ℕ) (E : Earlier rows)
           alike = alike-then (alike-first (hungAt rows i) (C .hung) (under rows p (i + 1))) (rw taken at (C .alike));
         }
 
-  -- ---- behind the first row h below p
+  -- ---- after the first row h below p
   module _ (h : ℕ) (h-is : getD links p 0 ≡ h) (there : h < length rows) (q-is : q ≡ nextAt + h) where
     h-below : (p < h) × ((h < i) × (getD rows h noRow .parent ≡ p))
     h-below = go (rw h-is at (B .below p early .chain))
@@ -193,20 +195,20 @@ module _ (rows : List Row) (links : List ℕ) (i k p q : ℕ) (E : Earlier rows)
         go (end e z f) = absurd (omega arith)
         go (next less v a b e z f ch) = (a, (b, e))
 
-    behind-place : (q < sitesAt) × ((¬ (q ≡ i)) × (¬ (q ≡ nextAt + i)))
-    behind-place = (omega (arith, h-below .1 .0), (omega arith, omega (arith, h-below .1 .0)))
+    second-place : (q < sitesAt) × ((¬ (q ≡ i)) × (¬ (q ≡ nextAt + i)))
+    second-place = (omega (arith, h-below .1 .0), (omega arith, omega (arith, h-below .1 .0)))
 
-    put-behind : Chained rows after p (i + 1)
-    put-behind = go (B .below p early .few) (rw taken at (B .below p early .alike)) (rw h-is at (B .below p early .chain))
+    put-second : Chained rows after p (i + 1)
+    put-second = go (B .below p early .few) (rw taken at (B .below p early .alike)) (rw h-is at (B .below p early .chain))
       where
         head : getD after p 0 ≡ h
         head = at-other p (omega (arith, early)) (omega (arith, early)) (omega (arith, early)) (omega (arith, early)) ∙ h-is
 
         second : getD after (nextAt + h) 0 ≡ i
-        second = let (low, (f, g)) = behind-place in ap (λ z. getD after z 0) (sym q-is) ∙ at-slot low f g
+        second = let (low, (f, g)) = second-place in ap (λ z. getD after z 0) (sym q-is) ∙ at-slot low f g
 
         third : getD after (nextAt + i) 0 ≡ getD links (nextAt + h) 0
-        third = let (low, (f, g)) = behind-place in at-next low f g ∙ ap (λ z. getD links z 0) q-is
+        third = let (low, (f, g)) = second-place in at-next low f g ∙ ap (λ z. getD links z 0) q-is
 
         go : {left : ℕ} {u : Option Tree} → left ≤ i → Alike (beside u (beside (hungAt rows i) (under rows p (i + 1)))) (under rows p (p + 1)) → Chain rows links p i h left u → Chained rows after p (i + 1)
         go few-left A (end e z f) = absurd (omega arith)
@@ -218,7 +220,7 @@ module _ (rows : List Row) (links : List ℕ) (i k p q : ℕ) (E : Earlier rows)
           alike = alike-then (alike-second (hungAt rows h) (hungAt rows i) v (under rows p (i + 1))) (rw f at A);
         }
           where
-            -- no row behind h is h
+            -- no row after h is h
             off : (c most : ℕ) (x : Option Tree) → most ≤ less → Chain rows links p i c most x → ¬ (c ≡ h)
             off c most x m ch₁ same-row = omega (arith, chain-one (B .inside) (rw same-row at ch₁) (next less v a b e z f ch))
 
@@ -242,15 +244,15 @@ module _ (rows : List Row) (links : List ℕ) (i k p q : ℕ) (E : Earlier rows)
 
   pub backing-step : (links′ : List ℕ) (k′ : ℕ) → Slot links (length rows) p q → links′ ≡ set (set (set (set links (nextAt + i) (getD links q 0)) q i) i (length rows)) (sitesAt + i) k → k′ ≡ sitesBefore rows (i + 1) → Backing rows links′ (i + 1) k′
   backing-step links′ k′ (first e) l z = put-in (first-place e) (λ c a b d. omega (arith, early)) (λ r a b d. b (d ∙ e)) (put-first e) links′ k′ l z
-  backing-step links′ k′ (behind h e) l z = put-in (behind-place (getD links p 0) refl h e) (λ c a b d. b (ap (λ y. getD rows y noRow .parent) (same-row c (d ∙ e)) ∙ h-below (getD links p 0) refl h e .1 .1)) (λ r a b d. omega arith) (put-behind (getD links p 0) refl h e) links′ k′ l z
+  backing-step links′ k′ (second h e) l z = put-in (second-place (getD links p 0) refl h e) (λ c a b d. b (ap (λ y. getD rows y noRow .parent) (same-row c (d ∙ e)) ∙ h-below (getD links p 0) refl h e .1 .1)) (λ r a b d. omega arith) (put-second (getD links p 0) refl h e) links′ k′ l z
     where
       same-row : (c : ℕ) → nextAt + c ≡ nextAt + getD links p 0 → c ≡ getD links p 0
       same-row c d = omega arith
 
 -- the place is in the links
-pub slot-low : (rows : List Row) (links : List ℕ) (i k p q : ℕ) → Backing rows links i k → length rows ≤ 256 → p < i → Slot links (length rows) p q → q < sitesAt
+pub slot-low : (rows : List Row) (links : List ℕ) (i k p q : ℕ) → Backing rows links i k → length rows ≤ rowsRoom → p < i → Slot links (length rows) p q → q < sitesAt
 slot-low rows links i k p q B few h (first e) = omega (arith, B .inside)
-slot-low rows links i k p q B few h (behind g e) = omega arith
+slot-low rows links i k p q B few h (second g e) = omega arith
 
 pub backing-end : (rows : List Row) (links : List ℕ) (i k : ℕ) → length rows ≡ i → Backing rows links i k → Backward rows links
 backing-end rows links i k e B = record { long = B .long; below = λ p h. rw e (B .below p (omega arith)); sites = λ j h. B .sites j (omega arith) }

@@ -1,6 +1,6 @@
 -- Tables that were checked, as the walks over them need them. Assumes nothing.
 use mathlib.Core.Path.{_≡_, refl, sym, ap, _∙_}
-use mathlib.Core.Bool.{Bool, true, false, _||_, true≢false}
+use mathlib.Core.Bool.{false}
 use mathlib.Core.List.{List, [], _∷_}
 use Prim.Native.Nat.{ℕ, _*_, _≤_}
 use native.Mathlib.Omega.{arith}
@@ -10,19 +10,15 @@ use lib.ListN.{length, getD}
 use borrow.Author.Tests.{ltb-false}
 use Rattle.rules.specs.declared.Row.{Row}
 use Rattle.rules.specs.Quantities.{typesRoom, rowsRoom}
-use Rattle.rules.specs.Tables.{typeWords, rowWords, shortTables, tableEntries}
+use Rattle.rules.specs.Tables.{typeWords, rowWords, shortTables, tableEntries, tablesOf, countsOf}
 use Rattle.rules.specs.Net.{driverOhms}
+use Rattle.laws.specs.Tests.{both-false}
 use Rattle.laws.specs.Accepted.{Accepted, accepted}
 use Rattle.laws.specs.Rows.{rows-two, later-at}
 use Rattle.laws.specs.Tabled.{rowAt, rowsFrom, rows-length, repeatersFrom, Tabled, tabled}
 use Rattle.laws.specs.Walk.{noRow}
-use Rattle.laws.specs.Checked.{tablesOf, countsOf, Passed}
+use Rattle.laws.specs.Checked.{Passed}
 use Rattle.rows.specs.Links.{Standing, Earlier, row-is}
-
--- neither of two
-pub neither : (a b : Bool) → (a || b) ≡ false → (a ≡ false) × (b ≡ false)
-neither true b e = absurd (true≢false e)
-neither false b e = (refl, e)
 
 -- the areas have their rooms
 pub record Long (types rows : List ℕ) (due : List ℤ) : Type 0 where
@@ -33,8 +29,8 @@ pub record Long (types rows : List ℕ) (due : List ℤ) : Type 0 where
 pub long-tables : (types rows : List ℕ) (due : List ℤ) → shortTables (tablesOf types rows due) ≡ false → Long types rows due
 unfolding shortTables
 long-tables types rows due e =
-    let (a, b) = neither (ltb (length types) (typeWords * typesRoom)) _ e in
-    let (b, c) = neither (ltb (length rows) (rowWords * rowsRoom)) _ b in
+    let (a, b) = both-false (ltb (length types) (typeWords * typesRoom)) _ e in
+    let (b, c) = both-false (ltb (length rows) (rowWords * rowsRoom)) _ b in
     record { types-room = ltb-false _ _ a; rows-room = ltb-false _ _ b; due-room = ltb-false _ _ c }
 
 pub driver-first : (net : List Row) → 1 ≤ length net → driverOhms net ≡ getD net 0 noRow .resistance .0

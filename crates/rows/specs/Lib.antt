@@ -1,4 +1,3 @@
-pub mod Rows
 pub mod Links
 pub mod Alike
 pub mod Backward

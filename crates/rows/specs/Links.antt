@@ -9,20 +9,13 @@ use native.Mathlib.Decide.{ℕ-discrete}
 use lib.IntN.{ℤ}
 use lib.ListN.{length, getD, take, set, length-set}
 use lib.Seq.{getD-set-same, getD-set-other}
+use Rattle.rules.specs.Tables.{rowWords}
+use Rattle.rules.specs.Quantities.{rowsRoom}
 use Rattle.rules.specs.declared.Row.{Row}
 use Rattle.rules.specs.Entries.{siteCount, sitesOf}
+use Rattle.rooms.specs.Links.{nextAt, sitesAt, linksRoom}
 use Rattle.laws.specs.Tabled.{rowAt, rowsFrom, rows-at, rows-length}
 use Rattle.laws.specs.Walk.{noRow, sitesBefore, sitesBefore-zero, sitesBefore-step, child, child-taken, child-passed, child-end}
-
--- the three tables stand one behind the other, 256 places each
-abbrev pub nextAt : ℕ
-nextAt = 256
-
-abbrev pub sitesAt : ℕ
-sitesAt = 512
-
-abbrev pub linksRoom : ℕ
-linksRoom = 768
 
 -- each row's parent is an earlier row
 abbrev pub Earlier : List Row → Type 0
@@ -37,8 +30,8 @@ pub record Links (rows : List Row) (links : List ℕ) : Type 0 where
 -- n rows stand in the words, the driver among them
 pub record Standing (words : List ℕ) (due : List ℤ) (n : ℕ) : Type 0 where
   pub some : 1 ≤ n
-  pub few : n ≤ 256
-  pub rows-long : 6 * n ≤ length words
+  pub few : n ≤ rowsRoom
+  pub rows-long : rowWords * n ≤ length words
   pub due-long : n ≤ length due
 
 -- ---- the first loop: sites before row i, and no row below any row so far
@@ -60,7 +53,7 @@ pub record Linking (rows : List Row) (links : List ℕ) (i : ℕ) : Type 0 where
   pub long : length links ≡ linksRoom
   pub one : 1 ≤ i
   pub inside : i ≤ length rows
-  pub few : length rows ≤ 256
+  pub few : length rows ≤ rowsRoom
   pub before : (r : ℕ) → r < i → getD links r 0 ≡ child rows r i
   pub first : (r : ℕ) → i ≤ r → r < length rows → getD links r 0 ≡ child rows r (r + 1)
   pub next : (j : ℕ) → i ≤ j → j < length rows → getD links (nextAt + j) 0 ≡ child rows (getD rows j noRow .parent) (j + 1)
@@ -69,7 +62,7 @@ pub record Linking (rows : List Row) (links : List ℕ) (i : ℕ) : Type 0 where
 pub counted : (rows : List Row) (links : List ℕ) (i k : ℕ) → length rows ≤ i → Counting rows links i k → Counted rows links
 counted rows links i k h c = record { long = c .long; first = λ r g. c .first r (omega arith); sites = λ j g. c .sites j (omega arith) }
 
-pub linking-start : (rows : List Row) (links : List ℕ) (i : ℕ) → 1 ≤ length rows → length rows ≤ 256 → i ≡ length rows → Counted rows links → Linking rows links i
+pub linking-start : (rows : List Row) (links : List ℕ) (i : ℕ) → 1 ≤ length rows → length rows ≤ rowsRoom → i ≡ length rows → Counted rows links → Linking rows links i
 linking-start rows links i some few e c = record {
   long = c .long;
   one = omega arith;
@@ -148,7 +141,7 @@ sites-few rows i h = go i rows
 pub counting-start : (rows : List Row) (links : List ℕ) → length links ≡ linksRoom → Counting rows links 0 0
 counting-start rows links h = record { long = h; inside = omega arith; count = sym (sitesBefore-zero rows); first = λ r g. absurd (omega arith); sites = λ j g. absurd (omega arith) }
 
-module _ (rows : List Row) (links : List ℕ) (i k : ℕ) (C : Counting rows links i k) (few : length rows ≤ 256) (more : i < length rows) where
+module _ (rows : List Row) (links : List ℕ) (i k : ℕ) (C : Counting rows links i k) (few : length rows ≤ rowsRoom) (more : i < length rows) where
   pub counting-step : (links′ : List ℕ) (k′ : ℕ) → links′ ≡ set (set links i (length rows)) (sitesAt + i) k → k′ ≡ sitesBefore rows (i + 1) → Counting rows links′ (i + 1) k′
   counting-step links′ k′ q e = rw q (record {
     long = length-set (set links i (length rows)) (sitesAt + i) k ∙ length-set links i (length rows) ∙ C .long;

@@ -1,22 +1,22 @@
 // Where the rows below each row stand, in the order in which the planner takes them: later ones before earlier ones, but for sinks.
-use crate::NEXT_AT;
-use crate::SITES_AT;
 use crate::first_below;
 use crate::place;
 use crate::row_at;
 use rooms::ROW_WORDS;
+use rooms::links::NEXT_AT;
+use rooms::links::SITES_AT;
+use rooms::words::SINK;
 ghost use mathlib.Core.Path.{_≡_};
 ghost use Prim.Native.Nat.{_+_, _*_, _≤_, _<_};
 ghost use lib.ListN.{length, getD, set};
 ghost use Rattle.rules.specs.Quantities.{rowsRoom};
 ghost use Rattle.rules.specs.Tables.{rowWords};
+ghost use Rattle.rooms.specs.Links.{nextAt, sitesAt, linksRoom};
 ghost use Rattle.laws.specs.Tabled.{rowsFrom};
-ghost use Rattle.rows.specs.Links.{Earlier, Standing, linksRoom, nextAt, sitesAt};
+ghost use Rattle.rows.specs.Links.{Earlier, Standing};
 ghost use Rattle.rows.specs.Backward.{Backward, Slot};
 
-const SINK: u32 = 2;
-
-// Where row i is put into the links: as the first of the rows below p, or, if it is a sink and the first is none, right behind the first.
+// Where row i is put into the links: as the first of the rows below p, or, if it is a sink and the first is none, right after the first.
 // So a walk that goes down along first rows comes to a sink only where all rows below the same parent are sinks.
 fn slot(rows: &[u32], links: &[u16], n: usize, i: usize, p: usize) -> usize
     requires { ⌜ (p < i) × ((i < n) × (n ≤ rowsRoom)) ⌝ }
@@ -42,8 +42,8 @@ fn put_row(links: &mut [u16], n: usize, i: usize, q: usize, k: usize)
     requires { ⌜ (k ≤ rowsRoom) × (length (now links) ≡ linksRoom) ⌝ }
     ensures { λ _. ⌜ now (links .exit) ≡ set (set (set (set (now (links .entry)) (nextAt + i) (getD (now (links .entry)) q 0)) q i) i n) (sitesAt + i) k ⌝ }
 {
-    let behind = links[q];
-    links[NEXT_AT + i] = behind;
+    let former = links[q];
+    links[NEXT_AT + i] = former;
     links[q] = place(i);
     links[i] = place(n);
     links[SITES_AT + i] = place(k);

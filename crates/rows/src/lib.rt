@@ -1,31 +1,26 @@
-// One row or type of a table by value, and where the rows below each row stand, so that a walk over the tree reads each row once.
+// One row of a table by value, and where the rows below each row stand, so that a walk over the tree reads each row once.
 use rooms::ROW_WORDS;
-use rooms::TYPE_WORDS;
+use rooms::links::NEXT_AT;
+use rooms::links::SITES_AT;
+use rooms::wide;
+use rooms::words::ROW_CAPACITANCE;
+use rooms::words::ROW_PARENT;
+use rooms::words::ROW_PIN;
+use rooms::words::ROW_RESISTANCE;
+use rooms::words::ROW_SITE;
 use rules::Femtofarad;
-use rules::Femtosecond;
 use rules::Ohm;
 use rules::Row;
 ghost use mathlib.Core.Path.{_≡_};
 ghost use Prim.Native.Nat.{_+_, _*_, _≤_, _<_};
 ghost use lib.ListN.{length, getD};
-ghost use Rattle.rules.specs.Quantities.{typesRoom, rowsRoom};
-ghost use Rattle.rules.specs.Tables.{typeWords, rowWords};
-ghost use Rattle.laws.specs.Tabled.{rowAt, rowsFrom, repeaterAt};
-ghost use Rattle.rows.specs.Rows.{IsBuffer};
-ghost use Rattle.rows.specs.Links.{Links, Earlier, Counted, Standing, linksRoom, nextAt, sitesAt};
+ghost use Rattle.rules.specs.Quantities.{rowsRoom};
+ghost use Rattle.rules.specs.Tables.{rowWords};
+ghost use Rattle.rooms.specs.Links.{nextAt, sitesAt, linksRoom};
+ghost use Rattle.laws.specs.Tabled.{rowAt, rowsFrom};
+ghost use Rattle.rows.specs.Links.{Links, Earlier, Counted, Standing};
 
 pub mod backward;
-
-const NEXT_AT: usize = 256;
-
-const SITES_AT: usize = 512;
-
-// A type of repeater, its three quantities apart.
-pub struct Buffer {
-    pub input: Femtofarad,
-    pub resistance: Ohm,
-    pub own: Femtosecond,
-}
 
 pub fn row_at(rows: &[u32], due: &[i64], i: usize) -> Row
     requires { ⌜ (i < rowsRoom) × ((rowWords * i + rowWords ≤ length (now rows)) × (i < length (now due))) ⌝ }
@@ -33,27 +28,15 @@ pub fn row_at(rows: &[u32], due: &[i64], i: usize) -> Row
 {
     let at = ROW_WORDS * i;
     let when = due[i];
-    let kind = kinds::kind_of(rows[at], rows[at + 5], when);
-    let parent = rows[at + 1];
-    let site = rows[at + 4] == 1;
+    let kind = kinds::kind_of(rows[at], rows[at + ROW_PIN], when);
+    let parent = rows[at + ROW_PARENT];
+    let site = rows[at + ROW_SITE] == 1;
     Row {
         parent,
-        resistance: Ohm(rows[at + 2]),
-        capacitance: Femtofarad(rows[at + 3]),
+        resistance: Ohm(rows[at + ROW_RESISTANCE]),
+        capacitance: Femtofarad(rows[at + ROW_CAPACITANCE]),
         site,
         kind,
-    }
-}
-
-pub fn type_at(types: &[u32], i: usize) -> Buffer
-    requires { ⌜ (i < typesRoom) × (typeWords * i + typeWords ≤ length (now types)) ⌝ }
-    ensures { λ r. ⌜ IsBuffer (repeaterAt (now (types .entry)) i) r ⌝ }
-{
-    let at = TYPE_WORDS * i;
-    Buffer {
-        input: Femtofarad(types[at]),
-        resistance: Ohm(types[at + 1]),
-        own: units::time_of(types[at + 2]),
     }
 }
 
@@ -63,12 +46,6 @@ fn place(i: usize) -> u16
     ensures { λ r. ⌜ r ≡ i ⌝ }
 {
     i as u16
-}
-
-fn wide(x: u16) -> usize
-    ensures { λ r. ⌜ r ≡ x ⌝ }
-{
-    x as usize
 }
 
 // How many sites come before each row; and no row is below any row so far.
@@ -100,8 +77,8 @@ fn link_rows(rows: &[u32], due: &[i64], n: usize, links: &mut [u16])
         let m = i - 1;
         let x = row_at(rows, due, m);
         let p = x.parent as usize;
-        let behind = links[p];
-        links[NEXT_AT + m] = behind;
+        let former = links[p];
+        links[NEXT_AT + m] = former;
         links[p] = place(m);
         i = m;
     }
@@ -123,7 +100,7 @@ pub fn first_below(links: &[u16], row: usize) -> usize
     requires { ⌜ (row < rowsRoom) × (length (now links) ≡ linksRoom) ⌝ }
     ensures { λ r. ⌜ r ≡ getD (now (links .entry)) row 0 ⌝ }
 {
-    wide(links[row])
+    wide::place(links[row])
 }
 
 // The next row below the same parent, or the number past the last row.
@@ -131,7 +108,7 @@ pub fn next_beside(links: &[u16], row: usize) -> usize
     requires { ⌜ (row < rowsRoom) × (length (now links) ≡ linksRoom) ⌝ }
     ensures { λ r. ⌜ r ≡ getD (now (links .entry)) (nextAt + row) 0 ⌝ }
 {
-    wide(links[NEXT_AT + row])
+    wide::place(links[NEXT_AT + row])
 }
 
 // How many sites come before a row: the number of its own, if it has one.
@@ -139,5 +116,5 @@ pub fn sites_before(links: &[u16], row: usize) -> usize
     requires { ⌜ (row < rowsRoom) × (length (now links) ≡ linksRoom) ⌝ }
     ensures { λ r. ⌜ r ≡ getD (now (links .entry)) (sitesAt + row) 0 ⌝ }
 {
-    wide(links[SITES_AT + row])
+    wide::place(links[SITES_AT + row])
 }

@@ -1,5 +1,6 @@
--- What the other files say of lists: every element, some element, every two in their order, the least; and what stands in an
--- area of memory once its start is written. Assumes nothing.
+-- What the other files say of lists: every element, some element, the least; what stands in an area of memory once its start is
+-- written; and something that is given when a test holds. Every two of a list in their order is the library's `Pairwise`, and the first
+-- of two that is there is its `orElse`. Assumes nothing.
 use mathlib.Core.Path.{_≡_}
 use mathlib.Core.Bool.{Bool, cond}
 use mathlib.Core.List.{List, [], _∷_, _++_}
@@ -18,11 +19,6 @@ pub data Any {A : Type 0} (P : A → Type 0) : List A → Type 0 where
   here : {x : A} {xs : List A} → P x → Any P (x ∷ xs)
   there : {x : A} {xs : List A} → Any P xs → Any P (x ∷ xs)
 
--- R holds of each element and each later one
-pub data Pairwise {A : Type 0} (R : A → A → Type 0) : List A → Type 0 where
-  nil : Pairwise R []
-  cons : {x : A} {xs : List A} → All (R x) xs → Pairwise R xs → Pairwise R (x ∷ xs)
-
 -- m is the least of l
 pub record Least (m : ℤ) (l : List ℤ) : Type 0 where
   pub below : All (λ t. m ≤ℤ t) l
@@ -32,11 +28,6 @@ pub record Least (m : ℤ) (l : List ℤ) : Type 0 where
 unfoldable pub written : {A : Type 0} → List A → List A → List A
 written new area = new ++ drop (length new) area
 
--- the first of two that is there
-abbrev pub orElse : {A : Type 0} → Option A → Option A → Option A
-orElse none b = b
-orElse (some a) b = some a
-
--- a where the test holds
-abbrev pub when : {A : Type 0} → Bool → A → Option A
-when test a = cond test (some a) none
+-- given when the test holds
+abbrev pub givenWhen : {A : Type 0} → Bool → A → Option A
+givenWhen test a = cond test (some a) none

@@ -1,5 +1,18 @@
--- The net as a tree. A row is a wire, its site below it if it has one, and below that its pin or the rows directly below it. A tree
--- is never empty, so that there is always a least over its sinks. Assumes nothing.
+-- The net as a tree. A row is a wire, its site below it if it has one, and below that its pin or the rows directly below it, beside each
+-- other. A tree is never empty, so that there is always a least over its sinks.
+--
+-- The rows of net B, for example, the driver and three more:
+--
+--     row 0: the driver
+--     row 1: a point below row 0, wire of 4 and 5
+--     row 2: a sink below row 1, wire of 6 and 7, site 0, pin 8 required at 1000
+--     row 3: a sink below row 1, wire of 0 and 3, site 1, pin 30 required at 950
+--
+-- At row 0 they are the tree
+--
+--     wire (4, 5) (both (wire (6, 7) (site 0 (sink 8 1000))) (wire (0, 3) (site 1 (sink 30 950))))
+--
+-- at row 1 the part inside the first wire, at row 2 `site 0 (sink 8 1000)`; `examples` computes them. Assumes nothing.
 use mathlib.Core.Bool.{Bool, true, false, cond}
 use mathlib.Core.List.{List, [], _∷_}
 use mathlib.Core.Option.{Option, none, some}
@@ -49,8 +62,9 @@ beside none b = b
 beside (some s) none = some s
 beside (some s) (some t) = some (both s t)
 
--- what hangs under row r, of the rows that are numbered from i on and whose sites are numbered from k on. What lies below a row
--- comes after it
+-- what hangs under row r: of each row whose parent is r its wire, and below it what is seen there, beside each other in their order. A row's
+-- number is its place, and a site's the number of sites before it; so the walk along the rows counts both: the rows still to come are
+-- numbered from i on and their sites from k on. What lies below a row comes after it, so it is found among those rows
 unfoldable pub hangs : (i k : ℕ) → List Row → (r : ℕ) → Option Tree
 hangs i k [] r = none
 hangs i k (x ∷ rows) r =
@@ -59,7 +73,7 @@ hangs i k (x ∷ rows) r =
     let others = hangs (i + 1) k′ rows r in
     cond (eqb (x .parent) r) (beside mine others) others
 
--- what is at row r: its repeater counts, its wire does not
+-- what is at row r: its repeater counts, its wire does not. Walked and counted in the same way, until the row is found
 unfoldable pub at : (i k : ℕ) → List Row → (r : ℕ) → Option Tree
 at i k [] r = none
 at i k (x ∷ rows) r =

@@ -1,16 +1,16 @@
 -- The pair of a placement at a row, unbeaten pairs, and the placement of greatest slack. Assumes nothing.
 use mathlib.Core.Path.{_≡_}
-use mathlib.Core.List.{List}
+use mathlib.Core.List.{List, Pairwise}
 use mathlib.Core.Logic.{_⊎_}
 use Prim.Native.Nat.{ℕ, _+_, _≤_, _<_}
 use lib.IntN.{ℤ}
 use lib.ListN.{length}
 use lib.Signed.{_≤ℤ_, _<ℤ_}
-use Rattle.rules.specs.Lists.{All, Any, Pairwise, Least}
+use Rattle.rules.specs.Lists.{All, Any, Least}
 use Rattle.rules.specs.Entries.{Repeater}
 use Rattle.rules.specs.Placements.{Placement}
 use Rattle.rules.specs.Net.{Tree, sink, site, wire, both}
-use Rattle.rules.specs.Slack.{load, slacks, IsSlack}
+use Rattle.rules.specs.Slack.{loadOf, slacks, IsSlack}
 
 -- site j is one of the tree's
 abbrev pub On : Tree → (j : ℕ) → Type 0
@@ -35,7 +35,7 @@ pub record NoWorse (a b : Pair) : Type 0 where
   pub load : a .load ≤ b .load
   pub time : b .time ≤ℤ a .time
 
--- and the two differ
+-- and the two differ: one pair beats another. `Unbeaten`, below, is said without it; the law that it points at says it with it
 pub record Beats (a b : Pair) : Type 0 where
   pub noWorse : NoWorse a b
   pub differ : ¬ (a ≡ b)
@@ -45,7 +45,8 @@ pub record Below (a b : Pair) : Type 0 where
   pub load : a .load < b .load
   pub time : a .time <ℤ b .time
 
--- of the pairs in R, those that none beats: loads and times strictly rising, each in R, each of R equalled or beaten by one of them
+-- of the pairs in R, those that none beats: loads and times strictly rising, each in R, each of R equalled or beaten by one of them. That
+-- a pair is listed exactly when it is in R and none of R beats it is the law `listed-iff` (`laws`, Listing); so there is one such list
 pub record Unbeaten (R : Pair → Type 0) (l : List Pair) : Type 0 where
   pub rising : Pairwise Below l
   pub reached : All R l
@@ -59,7 +60,7 @@ module _ (types : List Repeater) where
 
   -- its pair: the seen load, and the least, over sinks at or below, of required time minus the delays between
   pub record PairOf (t : Tree) (p : Placement) (c : Pair) : Type 0 where
-    pub load : c .load ≡ load types p t
+    pub load : c .load ≡ loadOf types p t
     pub time : Least (c .time) (slacks types p 0 t)
 
   -- the pairs that legal placements have
@@ -70,6 +71,6 @@ module _ (types : List Repeater) where
   pub record Planned (driver : ℕ) (t : Tree) (p : Placement) (slack : ℤ) (onDriver : ℕ) : Type 0 where
     pub legal : Legal t p
     pub slack-is : IsSlack types p driver t slack
-    pub load-is : onDriver ≡ load types p t
+    pub load-is : onDriver ≡ loadOf types p t
     pub greatest : (q : Placement) (other : ℤ) → Legal t q → IsSlack types q driver t other → other ≤ℤ slack
-    pub least : (q : Placement) → Legal t q → IsSlack types q driver t slack → onDriver ≤ load types q t
+    pub least : (q : Placement) → Legal t q → IsSlack types q driver t slack → onDriver ≤ loadOf types q t

@@ -1,14 +1,14 @@
 -- A placement: a mark for each site, 0 for none or the number of a type; and four 64-bit words that stand for one. Assumes nothing.
 use mathlib.Core.Bool.{cond}
 use mathlib.Core.List.{List, [], _∷_}
-use mathlib.Core.Option.{Option, none}
+use mathlib.Core.Option.{Option, none, orElse}
 use Prim.Native.Nat.{ℕ, zero, suc, _+_, _*_, _/_, _%_, _^_}
 use lib.Dec.{ltb}
 use lib.ListN.{length, getD, take}
 use Rattle.rules.specs.declared.Refusal.{Refusal}
 use Rattle.rules.specs.declared.Refusal.the-variants.{Mark}
 use Rattle.rules.specs.declared.Row.{Row}
-use Rattle.rules.specs.Lists.{orElse, when}
+use Rattle.rules.specs.Lists.{givenWhen}
 use Rattle.rules.specs.Quantities.{placementRoom, sitesRoom}
 use Rattle.rules.specs.Entries.{Entry, typesOf, rowsOf, sitesOf}
 use Rattle.rules.specs.Refusals.{lineOfRow}
@@ -34,8 +34,8 @@ rowOfSite r (x ∷ rows) (suc j) = rowOfSite (r + 1) rows (cond (x .site) j (suc
 unfoldable pub markRefusal : List Entry → Placement → (j : ℕ) → Option Refusal
 markRefusal es p j =
     cond (ltb j (sitesOf (rowsOf es)))
-    (when (ltb (length (typesOf es)) (p j)) (Mark (lineOfRow es (rowOfSite 0 (rowsOf es) j))))
-    (when (ltb 0 (p j)) (Mark 0))
+    (givenWhen (ltb (length (typesOf es)) (p j)) (Mark (lineOfRow es (rowOfSite 0 (rowsOf es) j))))
+    (givenWhen (ltb 0 (p j)) (Mark 0))
 
 -- 6: the lowest site first, of n sites from j on
 unfoldable pub marksFrom : List Entry → Placement → (j n : ℕ) → Option Refusal

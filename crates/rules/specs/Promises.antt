@@ -1,35 +1,54 @@
--- The promise of each public entry: what it was handed, what it answers, and every lent word afterwards, for every input. Assumes
--- nothing.
+-- The promise of each public entry: what it was handed, what the lent areas held, what it answers, and what they hold afterwards, to the
+-- last word, for every input. Assumes nothing.
 use mathlib.Core.Path.{_≡_}
-use mathlib.Core.Bool.{Bool, false, cond, _||_}
-use mathlib.Core.List.{List, [], _∷_, map}
-use mathlib.Core.Option.{Option, none, some}
+use mathlib.Core.Bool.{Bool, false, _||_}
+use mathlib.Core.List.{List, map}
+use mathlib.Core.Option.{Option, none, some, orElse}
 use Prim.Native.Nat.{ℕ, _+_, _*_, _≤_}
 use lib.Dec.{leb, ltb}
-use lib.IntN.{ℤ, pos}
-use lib.ListN.{length, replicate}
-use Rattle.rules.specs.declared.Cand.{Cand}
-use Rattle.rules.specs.declared.Kind.{Kind}
-use Rattle.rules.specs.declared.Kind.the-variants.{Driver, Point, Sink}
+use lib.ListN.{length}
 use Rattle.rules.specs.declared.Refusal.{Refusal}
 use Rattle.rules.specs.declared.Refusal.the-variants.{Room, Short, NoRow}
-use Rattle.rules.specs.declared.Row.{Row}
 use Rattle.rules.specs.declared.Reading.{Reading}
 use Rattle.rules.specs.declared.Checking.{Checking}
 use Rattle.rules.specs.declared.Slacking.{Slacking}
 use Rattle.rules.specs.declared.Planning.{Planning}
 use Rattle.rules.specs.declared.Listing.{Listing}
-use Rattle.rules.specs.Lists.{written, orElse, when}
-use Rattle.rules.specs.Quantities.{textRoom, placementRoom, listRoom, workRoom}
-use Rattle.rules.specs.Entries.{Entry, Repeater, typesOf, rowsOf}
+use Rattle.rules.specs.Lists.{written, givenWhen}
+use Rattle.rules.specs.Quantities.{textRoom, placementRoom}
+use Rattle.rules.specs.Entries.{Entry, typesOf, rowsOf}
 use Rattle.rules.specs.Text.{textEntries}
-use Rattle.rules.specs.Tables.{Tables, Counts, shortTables, tableEntries}
+use Rattle.rules.specs.Tables.{Tables, Counts, shortTables, tableEntries, countsIn, filled}
 use Rattle.rules.specs.Refusals.{refusalOf}
 use Rattle.rules.specs.Placements.{marks, placementRefusal}
 use Rattle.rules.specs.Net.{Tree, atRow, driverOhms}
-use Rattle.rules.specs.Slack.{load, IsSlack}
+use Rattle.rules.specs.Slack.{loadOf, IsSlack}
 use Rattle.rules.specs.Pairs.{Pair, Unbeaten, Reached, Planned, sitesOn}
+use Rattle.rules.specs.Areas.{shortPlacement, Lent, shortLent, Storage, PlanAreas, ListAreas}
 use Rattle.rules.specs.Answers.{refused, done, Timing, noCounts, noTiming, readFigures, checkFigures, slackFigures, planFigures, listFigures}
+
+-- ---- a net as it is handed over, as tables or as a text
+pub record Handed : Type 0 where
+  -- an area of it is shorter than its room
+  pub short : Bool
+  -- what else it is refused for, if it is
+  pub stopped : Option Refusal
+  -- the entries that it states
+  pub entries : List Entry
+  -- how many rows it counts
+  pub rows : ℕ
+
+-- line by line
+abbrev pub tabled : Tables → Counts → Handed
+tabled t n = record { short = shortTables t; stopped = refusalOf (tableEntries t n); entries = tableEntries t n; rows = n .rows }
+
+-- the length of the text; then line by line
+abbrev pub texted : List ℕ → Handed
+texted text = record { short = false; stopped = orElse (givenWhen (ltb textRoom (length text)) (Room 0)) (refusalOf (textEntries text)); entries = textEntries text; rows = length (rowsOf (textEntries text)) }
+
+-- 7, also for an area of the entry's own; then what the net is refused for
+unfoldable pub netRefusal : (short : Bool) → Handed → Option Refusal
+netRefusal short net = orElse (givenWhen (net .short || short) Short) (net .stopped)
 
 -- what is promised where something is refused, and where nothing is
 abbrev pub Settled : Option Refusal → (Refusal → Type 0) → Type 0 → Type 0
@@ -37,101 +56,35 @@ Settled none whereRefused whereNot = whereNot
 Settled (some r) whereRefused whereNot = whereRefused r
 
 -- ---- read_net
--- the words of types and of rows, and the required times: 0 where there is none
-unfoldable pub typeTable : List Repeater → List ℕ
-typeTable [] = []
-typeTable (x ∷ types) = x .input ∷ x .resistance ∷ x .own ∷ typeTable types
-
-abbrev pub kindWord : Kind → ℕ
-kindWord Driver = 0
-kindWord Point = 1
-kindWord (Sink pin) = 2
-
-abbrev pub pinWord : Kind → ℕ
-pinWord Driver = 0
-pinWord Point = 0
-pinWord (Sink pin) = pin .load .0
-
-abbrev pub dueOf : Kind → ℤ
-dueOf Driver = pos 0
-dueOf Point = pos 0
-dueOf (Sink pin) = pin .due .0
-
-unfoldable pub rowTable : List Row → List ℕ
-rowTable [] = []
-rowTable (x ∷ rows) = kindWord (x .kind) ∷ x .parent ∷ x .resistance .0 ∷ x .capacitance .0 ∷ cond (x .site) 1 0 ∷ pinWord (x .kind) ∷ rowTable rows
-
-unfoldable pub dueTable : List Row → List ℤ
-dueTable rows = map (λ x. dueOf (x .kind)) rows
-
--- the areas with a net's entries written at their start
-unfoldable pub filled : List Entry → Tables → Tables
-filled es t = record { types = written (typeTable (typesOf es)) (t .types); rows = written (rowTable (rowsOf es)) (t .rows); due = written (dueTable (rowsOf es)) (t .due) }
-
--- 7; then the length of the text; then line by line
-unfoldable pub readRefusal : List ℕ → Tables → Option Refusal
-readRefusal text t = orElse (when (shortTables t) Short) (orElse (when (ltb textRoom (length text)) (Room 0)) (refusalOf (textEntries text)))
-
 unfoldable pub ReadPromise : (text : List ℕ) (before : Tables) → Reading → (after : Tables) → Type 0
 ReadPromise text before answer after =
-    let es = textEntries text in
-    Settled (readRefusal text before)
+    Settled (netRefusal (shortTables before) (texted text))
     (λ r. (readFigures answer ≡ refused noCounts r) × (after ≡ before))
-    ((readFigures answer ≡ done (record { types = length (typesOf es); rows = length (rowsOf es) })) × (after ≡ filled es before))
+    ((readFigures answer ≡ done (countsIn (textEntries text))) × (after ≡ filled (textEntries text) before))
 
--- ---- check_net
--- 7, also for an area of the entry's own; then line by line
-unfoldable pub tablesRefusal : (short : Bool) → Tables → Counts → Option Refusal
-tablesRefusal short t n = orElse (when (shortTables t || short) Short) (refusalOf (tableEntries t n))
+-- ---- check_net, and a text of which only the counts are asked for
+unfoldable pub CheckPromise : Handed → Checking → Type 0
+CheckPromise net answer = Settled (netRefusal false net) (λ r. checkFigures answer ≡ refused tt r) (checkFigures answer ≡ done tt)
 
-unfoldable pub CheckPromise : Tables → Counts → Checking → Type 0
-CheckPromise t n answer = Settled (tablesRefusal false t n) (λ r. checkFigures answer ≡ refused tt r) (checkFigures answer ≡ done tt)
+unfoldable pub CountPromise : Handed → Reading → Type 0
+CountPromise net answer = Settled (netRefusal false net) (λ r. readFigures answer ≡ refused noCounts r) (readFigures answer ≡ done (countsIn (net .entries)))
 
 -- ---- slack_of
-abbrev pub shortPlacement : List ℕ → Bool
-shortPlacement words = ltb (length words) placementRoom
-
-unfoldable pub slackRefusal : Tables → Counts → (words : List ℕ) → Option Refusal
-slackRefusal t n words = orElse (tablesRefusal (shortPlacement words) t n) (placementRefusal (tableEntries t n) (marks words))
+unfoldable pub slackRefusal : Handed → (words : List ℕ) → Option Refusal
+slackRefusal net words = orElse (netRefusal (shortPlacement words) net) (placementRefusal (net .entries) (marks words))
 
 -- the slack and the load on the driver of a placement
 pub record TimingOf (es : List Entry) (words : List ℕ) (v : Timing) : Type 0 where
   pub tree : Tree
   pub tree-is : atRow (rowsOf es) 0 ≡ some tree
   pub slack : IsSlack (typesOf es) (marks words) (driverOhms (rowsOf es)) tree (v .slack)
-  pub load : v .load ≡ load (typesOf es) (marks words) tree
+  pub load : v .load ≡ loadOf (typesOf es) (marks words) tree
 
-unfoldable pub SlackPromise : Tables → Counts → (words : List ℕ) → Slacking → Type 0
-SlackPromise t n words answer =
-    Settled (slackRefusal t n words)
+unfoldable pub SlackPromise : Handed → (words : List ℕ) → Slacking → Type 0
+SlackPromise net words answer =
+    Settled (slackRefusal net words)
     (λ r. slackFigures answer ≡ refused noTiming r)
-    ((v : Timing) × (slackFigures answer ≡ done v) × TimingOf (tableEntries t n) words v)
-
--- ---- the work area
--- how a work area is kept: when it is shorter than its room, and what it is when its room is all zero
-pub record Storage (W : Type 0) : Type 0 where
-  pub short : W → Bool
-  pub cleared : W → W
-
--- columns of loads, times and placement words
-pub record Columns : Type 0 where
-  pub loads : List ℕ
-  pub times : List ℤ
-  pub words : List ℕ
-
-unfoldable pub columns : Storage Columns
-columns = record {
-  short = λ w. ltb (length (w .loads)) workRoom || (ltb (length (w .times)) workRoom || ltb (length (w .words)) (placementRoom * workRoom));
-  cleared = λ w. record { loads = written (replicate workRoom 0) (w .loads); times = written (replicate workRoom (pos 0)) (w .times); words = written (replicate (placementRoom * workRoom) 0) (w .words) };
-}
-
--- a record of zeros: no load, time 0, no mark
-abbrev pub zeros : Cand
-zeros = record { load = record { 0 = 0 }; time = record { 0 = pos 0 }; words = 0 ∷ 0 ∷ 0 ∷ 0 ∷ [] }
-
--- a run of records, each a load, a time and the four words of a placement
-unfoldable pub records : Storage (List Cand)
-records = record { short = λ w. ltb (length w) workRoom; cleared = λ w. written (replicate workRoom zeros) w }
+    ((v : Timing) × (slackFigures answer ≡ done v) × TimingOf (net .entries) words v)
 
 -- ---- plan_net
 -- the placement returned is planned, with the slack and load given, and all four of its words are written
@@ -143,24 +96,16 @@ pub record PlanOf (es : List Entry) (before after : List ℕ) (v : Timing) : Typ
   pub after-is : after ≡ written words before
   pub planned : Planned (typesOf es) (driverOhms (rowsOf es)) tree (marks words) (v .slack) (v .load)
 
-unfoldable pub PlanPromise : {W : Type 0} → Storage W → Tables → Counts → (before : List ℕ) (work : W) → Planning → (after : List ℕ) (work′ : W) → Type 0
-PlanPromise s t n before work answer after work′ =
-    Settled (tablesRefusal (shortPlacement before || s .short work) t n)
-    (λ r. (planFigures answer ≡ refused noTiming r) × (after ≡ before) × (work′ ≡ work))
-    ((v : Timing) × (planFigures answer ≡ done v) × PlanOf (tableEntries t n) before after v × (work′ ≡ s .cleared work))
+unfoldable pub PlanPromise : {W : Type 0} → Storage W → Handed → (before : PlanAreas W) → Planning → (after : PlanAreas W) → Type 0
+PlanPromise s net before answer after =
+    Settled (netRefusal (shortPlacement (before .placement) || s .short (before .work)) net)
+    (λ r. (planFigures answer ≡ refused noTiming r) × (after ≡ before))
+    ((v : Timing) × (planFigures answer ≡ done v) × PlanOf (net .entries) (before .placement) (after .placement) v × (after .work ≡ s .cleared (before .work)))
 
 -- ---- list_at
--- the areas that a list is written to
-pub record Lent : Type 0 where
-  pub loads : List ℕ
-  pub times : List ℤ
-
-unfoldable pub shortLent : Lent → Bool
-shortLent a = ltb (length (a .loads)) listRoom || ltb (length (a .times)) listRoom
-
 -- after 5, 8: the row asked for is not in the net
-unfoldable pub listRefusal : (short : Bool) → Tables → Counts → (row : ℕ) → Option Refusal
-listRefusal short t n row = orElse (tablesRefusal short t n) (when (leb (n .rows) row) NoRow)
+unfoldable pub listRefusal : (short : Bool) → Handed → (row : ℕ) → Option Refusal
+listRefusal short net row = orElse (netRefusal short net) (givenWhen (leb (net .rows) row) NoRow)
 
 -- what is written is the unbeaten pairs at the row, at most one and one for each type at each site at or below
 pub record ListOf (es : List Entry) (row : ℕ) (before after : Lent) (len : ℕ) : Type 0 where
@@ -173,8 +118,8 @@ pub record ListOf (es : List Entry) (row : ℕ) (before after : Lent) (len : ℕ
   pub loads : after .loads ≡ written (map (λ c. c .load) list) (before .loads)
   pub times : after .times ≡ written (map (λ c. c .time) list) (before .times)
 
-unfoldable pub ListPromise : {W : Type 0} → Storage W → Tables → Counts → (row : ℕ) (before : Lent) (work : W) → Listing → (after : Lent) (work′ : W) → Type 0
-ListPromise s t n row before work answer after work′ =
-    Settled (listRefusal (shortLent before || s .short work) t n row)
-    (λ r. (listFigures answer ≡ refused 0 r) × (after ≡ before) × (work′ ≡ work))
-    ((len : ℕ) × (listFigures answer ≡ done len) × ListOf (tableEntries t n) row before after len × (work′ ≡ s .cleared work))
+unfoldable pub ListPromise : {W : Type 0} → Storage W → Handed → (row : ℕ) (before : ListAreas W) → Listing → (after : ListAreas W) → Type 0
+ListPromise s net row before answer after =
+    Settled (listRefusal (shortLent (before .list) || s .short (before .work)) net row)
+    (λ r. (listFigures answer ≡ refused 0 r) × (after ≡ before))
+    ((len : ℕ) × (listFigures answer ≡ done len) × ListOf (net .entries) row (before .list) (after .list) len × (after .work ≡ s .cleared (before .work)))

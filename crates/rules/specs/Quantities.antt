@@ -51,16 +51,6 @@ listRoom = 257
 abbrev pub workRoom : ℕ
 workRoom = 768
 
--- what follows from the ranges: the greatest load, and between what the slack lies
-abbrev pub mostLoad : ℕ
-mostLoad = 51_200_000
-
-abbrev pub leastSlack : ℤ
-leastSlack = negsuc 2_999_999_999_999_999
-
-abbrev pub mostSlack : ℤ
-mostSlack = pos 1_000_000_000_000
-
 -- a time less a delay
 infixl 65 _⊖_
 unfoldable pub _⊖_ : ℤ → ℕ → ℤ

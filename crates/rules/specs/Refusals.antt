@@ -2,7 +2,7 @@
 -- the missing driver and 5. Assumes nothing.
 use mathlib.Core.Bool.{Bool, true, false, not, _&&_, _||_}
 use mathlib.Core.List.{List, [], _∷_, _++_}
-use mathlib.Core.Option.{Option, none, some}
+use mathlib.Core.Option.{Option, none, some, orElse}
 use Prim.Native.Nat.{ℕ, zero, suc, _+_}
 use lib.Dec.{leb, ltb, eqb}
 use lib.ListN.{length}
@@ -12,7 +12,7 @@ use Rattle.rules.specs.declared.Kind.the-variants.{Driver, Point, Sink}
 use Rattle.rules.specs.declared.Refusal.{Refusal}
 use Rattle.rules.specs.declared.Refusal.the-variants.{Form, Range, Room, Parent, Childless, Mark, Short, NoRow}
 use Rattle.rules.specs.declared.Row.{Row}
-use Rattle.rules.specs.Lists.{orElse, when}
+use Rattle.rules.specs.Lists.{givenWhen}
 use Rattle.rules.specs.Quantities.{mostOhms, mostFemtofarads, mostOwn, earliestDue, latestDue, mostParent, mostSite, typesRoom, rowsRoom, sitesRoom}
 use Rattle.rules.specs.Entries.{Entry, type, driver, point, sink, malformed, beyond, typesOf, rowsOf, sitesOf}
 
@@ -97,13 +97,13 @@ orphan before beyond = false
 unfoldable pub lineRefusal : List Entry → Entry → Option Refusal
 lineRefusal before e =
     let line = length before + 1 in
-    orElse (when (misplaced (some? (rowsOf before)) e) (Form line))
-    (orElse (when (outOfRange e) (Range line))
-    (orElse (when (tooMany before e) (Room line))
-    (when (orphan before e) (Parent line))))
+    orElse (givenWhen (misplaced (some? (rowsOf before)) e) (Form line))
+    (orElse (givenWhen (outOfRange e) (Range line))
+    (orElse (givenWhen (tooMany before e) (Room line))
+    (givenWhen (orphan before e) (Parent line))))
 
 -- ---- after the last line
--- the line of row r is behind those of the types and of the rows before it
+-- the line of row r is after those of the types and of the rows before it
 unfoldable pub lineOfRow : List Entry → ℕ → ℕ
 lineOfRow es r = length (typesOf es) + r + 1
 
@@ -114,14 +114,14 @@ under r (x ∷ rows) = eqb (x .parent) r || under r rows
 -- 5: the first row from number r on that is no sink and has no row below it. What lies below a row comes after it
 unfoldable pub childless : (r : ℕ) → List Row → Option ℕ
 childless r [] = none
-childless r (x ∷ rows) = orElse (when (not (isSink (x .kind) || under r rows)) r) (childless (r + 1) rows)
+childless r (x ∷ rows) = orElse (givenWhen (not (isSink (x .kind) || under r rows)) r) (childless (r + 1) rows)
 
 abbrev pub childlessAt : List Entry → Option ℕ → Option Refusal
 childlessAt es none = none
 childlessAt es (some r) = some (Childless (lineOfRow es r))
 
 unfoldable pub lastRefusal : List Entry → Option Refusal
-lastRefusal es = orElse (when (not (some? (rowsOf es))) (Form (length es + 1))) (childlessAt es (childless 0 (rowsOf es)))
+lastRefusal es = orElse (givenWhen (not (some? (rowsOf es))) (Form (length es + 1))) (childlessAt es (childless 0 (rowsOf es)))
 
 -- ---- the first refusal of all, if there is one: `before` has passed, and the others are still to come
 unfoldable pub firstRefusal : (before rest : List Entry) → Option Refusal

@@ -30,19 +30,19 @@ module _ (types : List Repeater) where
 
   module _ (p : Placement) where
     -- of a sink, its pin; over the rows directly below, the sum of wire capacitance plus seen load
-    unfoldable pub load : Tree → ℕ
-    load (sink pin due) = pin
-    load (site j t) = seenLoad (p j) (load t)
-    load (wire w t) = w .capacitance + load t
-    load (both s t) = load s + load t
+    unfoldable pub loadOf : Tree → ℕ
+    loadOf (sink pin due) = pin
+    loadOf (site j t) = seenLoad (p j) (loadOf t)
+    loadOf (wire w t) = w .capacitance + loadOf t
+    loadOf (both s t) = loadOf s + loadOf t
 
     -- required time minus arrival of each sink, where the delays on the path so far come to `arrival`
     unfoldable pub slacks : (arrival : ℕ) → Tree → List ℤ
     slacks arrival (sink pin due) = (due ⊖ arrival) ∷ []
-    slacks arrival (site j t) = slacks (arrival + repeaterDelay (p j) (load t)) t
-    slacks arrival (wire w t) = slacks (arrival + wireDelay w (load t)) t
+    slacks arrival (site j t) = slacks (arrival + repeaterDelay (p j) (loadOf t)) t
+    slacks arrival (wire w t) = slacks (arrival + wireDelay w (loadOf t)) t
     slacks arrival (both s t) = slacks arrival s ++ slacks arrival t
 
     -- the slack of a placement is the least over sinks; the driver's delay is its resistance times its driven load
     unfoldable pub IsSlack : (driver : ℕ) → Tree → ℤ → Type 0
-    IsSlack driver t slack = Least slack (slacks (driver * load t) t)
+    IsSlack driver t slack = Least slack (slacks (driver * loadOf t) t)

@@ -27,15 +27,15 @@ abbrev pub digit : ℕ → ℕ
 digit b = b - code "0"
 
 -- digits that follow the number n
-unfoldable pub digits : (n : ℕ) → List ℕ → Option ℕ
-digits n [] = some n
-digits n (b ∷ s) = cond (isDigit (code "0") b) (digits (10 * n + digit b) s) none
+unfoldable pub moreDigits : (n : ℕ) → List ℕ → Option ℕ
+moreDigits n [] = some n
+moreDigits n (b ∷ s) = cond (isDigit (code "0") b) (moreDigits (10 * n + digit b) s) none
 
 -- `0`, or a digit from 1 to 9 and digits
 unfoldable pub number : List ℕ → Option ℕ
 number [] = none
 number (b ∷ []) = cond (isDigit (code "0") b) (some (digit b)) none
-number (b ∷ c ∷ s) = cond (isDigit (code "1") b) (digits (digit b) (c ∷ s)) none
+number (b ∷ c ∷ s) = cond (isDigit (code "1") b) (moreDigits (digit b) (c ∷ s)) none
 
 abbrev pub positive : Option ℕ → Option ℤ
 positive none = none
@@ -58,9 +58,10 @@ abbrev pub after : {A : Type 0} → Option A → (A → List (List ℕ) → Entr
 after none next fields = malformed
 after (some a) next fields = next a fields
 
-abbrev pub _>>=_ : {A : Type 0} → (List ℕ → Option A) → (A → List (List ℕ) → Entry) → List (List ℕ) → Entry
-_>>=_ read next [] = malformed
-_>>=_ read next (f ∷ fields) = after (read f) next fields
+-- one field read, and with what it reads as the line's other fields
+abbrev pub nextField : {A : Type 0} → (read : List ℕ → Option A) (next : A → List (List ℕ) → Entry) → List (List ℕ) → Entry
+nextField read next [] = malformed
+nextField read next (f ∷ fields) = after (read f) next fields
 
 -- no field more
 abbrev pub end : Entry → List (List ℕ) → Entry
@@ -68,34 +69,34 @@ end e [] = e
 end e (f ∷ fields) = malformed
 
 unfoldable pub typeLine : List (List ℕ) → Entry
-typeLine = do
-  input ← number
-  resistance ← number
-  own ← number
-  end (type input resistance own)
+typeLine =
+    nextField number (λ input.
+    nextField number (λ resistance.
+    nextField number (λ own.
+    end (type input resistance own))))
 
 unfoldable pub driverLine : List (List ℕ) → Entry
-driverLine = do
-  resistance ← number
-  end (driver resistance)
+driverLine =
+    nextField number (λ resistance.
+    end (driver resistance))
 
 unfoldable pub pointLine : List (List ℕ) → Entry
-pointLine = do
-  parent ← number
-  resistance ← number
-  capacitance ← number
-  site ← number
-  end (point parent resistance capacitance site)
+pointLine =
+    nextField number (λ parent.
+    nextField number (λ resistance.
+    nextField number (λ capacitance.
+    nextField number (λ site.
+    end (point parent resistance capacitance site)))))
 
 unfoldable pub sinkLine : List (List ℕ) → Entry
-sinkLine = do
-  parent ← number
-  resistance ← number
-  capacitance ← number
-  site ← number
-  pin ← number
-  due ← signed
-  end (sink parent resistance capacitance site pin due)
+sinkLine =
+    nextField number (λ parent.
+    nextField number (λ resistance.
+    nextField number (λ capacitance.
+    nextField number (λ site.
+    nextField number (λ pin.
+    nextField signed (λ due.
+    end (sink parent resistance capacitance site pin due)))))))
 
 -- by the letter of a line
 unfoldable pub lettered : ℕ → List (List ℕ) → Entry
@@ -112,7 +113,7 @@ lineOf ([] ∷ fields) = malformed
 lineOf ((b ∷ []) ∷ fields) = lettered b fields
 lineOf ((b ∷ c ∷ s) ∷ fields) = malformed
 
--- the entries that stretches parted by line feeds state. Behind the last line feed there is nothing, or a line that is not ended
+-- the entries that stretches parted by line feeds state. Past the last line feed there is nothing, or a line that is not ended
 unfoldable pub linesOf : List (List ℕ) → List Entry
 linesOf [] = []
 linesOf ([] ∷ []) = []

@@ -28,8 +28,8 @@ use denote.Triple.Statement.{Contract}
 use denote.Triple.Clauses.{ensured, lasts}
 use denote.Triple.Walked.{says}
 use lib.ListN.{getD}
-use Rattle.rules.specs.Promises.{zeros}
 use Rattle.rules.specs.declared.Cand.{Cand}
+use Rattle.rules.specs.Areas.{zeros}
 use Rattle.turns.specs.declared.Pass.{Pass}
 use Rattle.runs.specs.Passes.{Ready, Took, Safe, Swept}
 use Rattle.rules.proofs.Cand as T

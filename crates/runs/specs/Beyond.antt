@@ -1,4 +1,4 @@
--- A pass stores in the work room only: the run is as long as it was, and all behind the room is as it was. Assumes nothing.
+-- A pass stores in the work room only: the run is as long as it was, and all past the room is as it was. Assumes nothing.
 use mathlib.Core.Path.{_≡_, refl, _∙_}
 use mathlib.Core.List.{List}
 use lib.ListN.{length, drop, length-set}
@@ -13,9 +13,6 @@ pub swept-length : {p r : Pass} {w w′ : List Cand} → Swept p w r w′ → le
 swept-length (none h) = refl
 swept-length {p} {r} {w} (turn t l is s) = swept-length s ∙ length-set w (p .to) (t .put)
 
-pub swept-behind : {p r : Pass} {w w′ : List Cand} → Safe p w → Swept p w r w′ → drop workRoom w′ ≡ drop workRoom w
-swept-behind s (none h) = refl
-swept-behind {p} {r} {w} s (turn t l is k) = swept-behind (safe-next s l t is) k ∙ drop-set-lt workRoom w (p .to) (t .put) (safe-ready s l .here .to)
-
-pub beyond : {p r : Pass} {w w′ : List Cand} → Safe p w → Swept p w r w′ → (length w′ ≡ length w) × (drop workRoom w′ ≡ drop workRoom w)
-beyond s k = (swept-length k, swept-behind s k)
+pub swept-past : {p r : Pass} {w w′ : List Cand} → Safe p w → Swept p w r w′ → drop workRoom w′ ≡ drop workRoom w
+swept-past s (none h) = refl
+swept-past {p} {r} {w} s (turn t l is k) = swept-past (safe-next s l t is) k ∙ drop-set-lt workRoom w (p .to) (t .put) (safe-ready s l .here .to)

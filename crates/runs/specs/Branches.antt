@@ -1,4 +1,4 @@
--- A pass that walks two lists together and writes what each two make behind them. Assumes nothing.
+-- A pass that walks two lists together and writes what each two make after them. Assumes nothing.
 use mathlib.Core.Path.{_≡_, refl}
 use mathlib.Core.Bool.{Bool, true, false, cond}
 use mathlib.Core.List.{List}
@@ -10,7 +10,7 @@ use lib.Signed.{ltZ}
 use lib.ListN.{length, getD, set, length-set}
 use Rattle.rules.specs.declared.Femtosecond.{Femtosecond}
 use Rattle.rules.specs.Quantities.{workRoom}
-use Rattle.laws.specs.Joining.{join}
+use Rattle.laws.specs.Joining.{joinMarks}
 use Rattle.laws.specs.Steps.{joined}
 use Rattle.columns.specs.Run.{blank}
 use Rattle.branches.specs.Branching.{Pair, Joining, Merged, joining-start, joining-fit, joining-step, joining-end, not-both}
@@ -49,15 +49,15 @@ module _ (w₀ : List Cand) (low m n : ℕ) (place : low + m + n + (m + n) ≤ s
     stores = omega (arith, reads, pairs, i .joins .slow)
 
     is-first : getD (cands w) (p .from) blank ≡ candOf (first p w)
-    is-first = cands-at w (p .from) (omega (arith, reads, stores, i .joins .behind, i .long))
+    is-first = cands-at w (p .from) (omega (arith, reads, stores, i .joins .past, i .long))
 
     is-second : getD (cands w) (p .with) blank ≡ candOf (second p w)
-    is-second = cands-at w (p .with) (omega (arith, pairs, stores, i .joins .behind, i .long))
+    is-second = cands-at w (p .with) (omega (arith, pairs, stores, i .joins .past, i .long))
 
     walking-ready : Ready p w
     walking-ready = record {
       long = i .long;
-      here = record { left = l; from = omega (arith, reads, stores, i .joins .behind); with = omega (arith, pairs, stores, i .joins .behind); to = stores };
+      here = record { left = l; from = omega (arith, reads, stores, i .joins .past); with = omega (arith, pairs, stores, i .joins .past); to = stores };
       can = rw (i .step) (rw (is-first, is-second) at (joining-fit (cands w₀) (cands w) low m n (p .from) (p .with) (p .to) (i .joins) reads pairs));
     }
 
@@ -65,7 +65,7 @@ module _ (w₀ : List Cand) (low m n : ℕ) (place : low + m + n + (m + n) ≤ s
       made : Turned (Branch (low + m + n) (low + m)) p (first p w) (second p w) t
       made = rw (i .step) at is
 
-      put : cands (set w (p .to) (t .put)) ≡ set (cands w) (p .to) (joined join (getD (cands w) (p .from) blank) (getD (cands w) (p .with) blank))
+      put : cands (set w (p .to) (t .put)) ≡ set (cands w) (p .to) (joined joinMarks (getD (cands w) (p .from) blank) (getD (cands w) (p .with) blank))
       put = rw (is-first, is-second, ← made .0) (cands-set w (p .to) (t .put))
 
       walked : Joining (cands w₀) (cands (set w (p .to) (t .put))) low m n (onFrom p (first p w) (second p w)) (onWith p (first p w) (second p w)) (p .to + 1)

@@ -6,7 +6,7 @@ use native.Mathlib.Omega.{arith}
 use lib.ListN.{length, getD, set, length-map}
 use Rattle.columns.specs.Run.{Candidate, blank}
 use Rattle.rules.specs.declared.Cand.{Cand}
-use Rattle.rules.specs.Promises.{zeros}
+use Rattle.rules.specs.Areas.{zeros}
 use Rattle.values.specs.Records.{candOf, cands}
 
 pub cands-length : (w : List Cand) → length (cands w) ≡ length w

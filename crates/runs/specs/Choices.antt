@@ -4,22 +4,23 @@ use mathlib.Core.Bool.{Bool, true, false, cond}
 use mathlib.Core.List.{List, _∷_}
 use Prim.Native.Nat.{ℕ, _+_, _-_, _≤_, _<_}
 use native.Mathlib.Omega.{arith}
-use lib.Signed.{ltZ}
+use lib.Signed.{ltZ, mag}
 use lib.ListN.{length, getD, set}
 use lib.Seq.{set-getD}
 use Rattle.rules.specs.declared.Ohm.{Ohm}
 use Rattle.rules.specs.declared.Femtosecond.{Femtosecond}
-use Rattle.rules.specs.Quantities.{mostOhms, mostOwn, workRoom}
+use Rattle.units.specs.Times.{Own}
+use Rattle.rules.specs.Quantities.{mostOhms, workRoom}
 use Rattle.laws.specs.Steps.{value, best}
 use Rattle.columns.specs.Parts.{part, part-nil, part-cons, all-part}
 use Rattle.columns.specs.Run.{Candidate, blank}
 use Rattle.columns.specs.Made.{Fit, Stand}
 use Rattle.columns.specs.Choosing.{delayOf, pick-by}
 use Rattle.rules.specs.declared.Cand.{Cand}
+use Rattle.rules.specs.Areas.{zeros}
 use Rattle.turns.specs.declared.Step.the-variants.{FirstChoice, Choose}
 use Rattle.turns.specs.declared.Pass.{Pass}
 use Rattle.turns.specs.declared.Turn.{Turn}
-use Rattle.rules.specs.Promises.{zeros}
 use Rattle.values.specs.Records.{candOf, cands}
 use Rattle.runs.specs.Cands.{cands-length, cands-at}
 use Rattle.values.specs.Values.{worthOf}
@@ -27,7 +28,7 @@ use Rattle.turns.specs.Turns.{passOf, Turned}
 use Rattle.runs.specs.Passes.{first, second, Ready, Safe, Swept}
 use Rattle.runs.specs.Sweeps.{kept-safe, kept-swept}
 
-worth-is : (own : ℕ) (r : Ohm) (x : Cand) → worthOf own r x .0 ≡ value (delayOf own (r .0)) (candOf x)
+worth-is : (own : Femtosecond) (r : Ohm) (x : Cand) → worthOf own r x .0 ≡ value (delayOf (mag (own .0)) (r .0)) (candOf x)
 unfolding value
 worth-is own r x = refl
 
@@ -40,10 +41,10 @@ best-on : (f : ℕ → ℕ) (x y : Candidate) (l : List Candidate) (b : Bool) �
 unfolding best
 best-on f x y l b e = ap (λ (z : Candidate). best f z l) (sym (pick-by f x y _ b e))
 
-module _ (own : ℕ) (r : Ohm) (small : own ≤ mostOwn) (ohms : r .0 ≤ mostOhms)
+module _ (own : Femtosecond) (r : Ohm) (small : Own (own .0)) (ohms : r .0 ≤ mostOhms)
     (w : List Cand) (at n : ℕ) (h : Cand) (v : Femtosecond) (long : workRoom ≤ length w) (s : Stand (cands w) at n) where
   abbrev f : ℕ → ℕ
-  f = delayOf own (r .0)
+  f = delayOf (mag (own .0)) (r .0)
 
   abbrev chosen : Candidate
   chosen = best f (getD (cands w) at blank) (part (at + 1) (at + n) (cands w))
@@ -97,8 +98,8 @@ module _ (own : ℕ) (r : Ohm) (small : own ≤ mostOwn) (ohms : r .0 ≤ mostOh
 
   -- the best is held, with what it is worth
   pub choices-swept : {q : Pass} {w′ : List Cand} → Swept (passOf (FirstChoice own r) n at at at h v) w q w′
-      → (w′ ≡ w) × (candOf (q .held) ≡ best (delayOf own (r .0)) (getD (cands w) at blank) (part (at + 1) (at + n) (cands w)))
-      × (q .worth .0 ≡ value (delayOf own (r .0)) (best (delayOf own (r .0)) (getD (cands w) at blank) (part (at + 1) (at + n) (cands w))))
+      → (w′ ≡ w) × (candOf (q .held) ≡ best (delayOf (mag (own .0)) (r .0)) (getD (cands w) at blank) (part (at + 1) (at + n) (cands w)))
+      × (q .worth .0 ≡ value (delayOf (mag (own .0)) (r .0)) (best (delayOf (mag (own .0)) (r .0)) (getD (cands w) at blank) (part (at + 1) (at + n) (cands w))))
   choices-swept {q} {w′} S = let k = kept-swept Inv ready step S begun in end q w′ (k .0) (k .1)
     where
       end : (q : Pass) (w′ : List Cand) → Inv q w′ → q .left ≤ 0 → (w′ ≡ w) × (candOf (q .held) ≡ chosen) × (q .worth .0 ≡ value f chosen)

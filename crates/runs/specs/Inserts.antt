@@ -1,4 +1,5 @@
--- A record put into a list by one pass over its run: past what is below it, over what it covers, the rest moved on. Assumes nothing.
+-- A record put into a list by one pass over its run: past what is below it, over what it beats, the rest moved on; where one covers it,
+-- its equal too, the list stays. Assumes nothing.
 use mathlib.Core.Path.{_≡_, refl, sym, ap, _∙_}
 use mathlib.Core.Bool.{Bool, true, false, cond}
 use mathlib.Core.List.{List, [], _∷_, _++_, append-assoc, append-nil}
@@ -12,16 +13,17 @@ use borrow.Author.Tests.{ltb-true, ltb-false}
 use Rattle.rules.specs.declared.Femtosecond.{Femtosecond}
 use Rattle.rules.specs.Quantities.{workRoom}
 use Rattle.laws.specs.Candidates.{Covers, Below, thinIn}
+use Rattle.laws.specs.Ties.{thin-covered}
 use Rattle.columns.specs.Parts.{part, part-nil, part-cons, part-snoc, part-over, part-under, part-length}
 use Rattle.columns.specs.Run.{Candidate, blank}
 use Rattle.columns.specs.Made.{Gives}
-use Rattle.pairs.specs.Stands.{isBelow, isCovering, below-yes, below-no, covering-yes, covering-no, thin-above, thin-covers, thin-covered, thin-below, stands-below}
+use Rattle.pairs.specs.Stands.{isBelow, isCovering, isCovered, below-yes, below-no, covering-yes, covering-no, covered-yes, covered-no, thin-above, thin-covers, thin-below, stands-below}
 use Rattle.rules.specs.declared.Cand.{Cand}
+use Rattle.rules.specs.Areas.{zeros}
 use Rattle.turns.specs.declared.Step.{Step}
 use Rattle.turns.specs.declared.Step.the-variants.{Move, Insert, Shift}
 use Rattle.turns.specs.declared.Pass.{Pass}
 use Rattle.turns.specs.declared.Turn.{Turn}
-use Rattle.rules.specs.Promises.{zeros}
 use Rattle.values.specs.Records.{candOf, cands}
 use Rattle.runs.specs.Cands.{cands-length, cands-at, cands-set}
 use Rattle.turns.specs.Turns.{passOf, Here, Shifting, Turned}
@@ -134,17 +136,17 @@ module _ (w₀ : List Cand) (at n : ℕ) (h : Cand) (v : Femtosecond) (inside : 
           (seeking {w = set w to x} (left - 1) (from + 1) (to + 1) (on w from to k x l) (omega arith)
           (rw (grown w from to k x, rest w from to k x l, append-assoc) (rw (thin-above (candOf h) (candOf x) (part (from + 1) (at + n) (cands w)) b) at opened)))
 
-      dropped : Covers (candOf h) (candOf x) → (t .put ≡ x) × (t .next ≡ passOf Insert (left - 1) (from + 1) at to h v) → Inv (t .next) (set w to (t .put))
-      dropped b is =
+      dropped : Covers (candOf h) (candOf x) → (Covers (candOf x) (candOf h) → ⊥) → (t .put ≡ x) × (t .next ≡ passOf Insert (left - 1) (from + 1) at to h v) → Inv (t .next) (set w to (t .put))
+      dropped b c is =
           rw (is .0, is .1)
           (seeking {w = set w to x} (left - 1) (from + 1) to (off w from to k x l) (omega arith)
-          (rw (same w from to k x, rest w from to k x l) (rw (thin-covers (candOf h) (candOf x) (part (from + 1) (at + n) (cands w)) b) at opened)))
+          (rw (same w from to k x, rest w from to k x l) (rw (thin-covers (candOf h) (candOf x) (part (from + 1) (at + n) (cands w)) b c) at opened)))
 
-      beaten : Covers (candOf x) (candOf h) → (Covers (candOf h) (candOf x) → ⊥) → (t .put ≡ x) × (t .next ≡ passOf Move (left - 2) (from + 1) at (to + 1) h v) → Inv (t .next) (set w to (t .put))
-      beaten b c is =
+      stays : Covers (candOf x) (candOf h) → (t .put ≡ x) × (t .next ≡ passOf Move (left - 2) (from + 1) at (to + 1) h v) → Inv (t .next) (set w to (t .put))
+      stays b is =
           rw (is .0, is .1)
           (moving {w = set w to x} (left - 2) (from + 1) (to + 1) (on w from to k x l) (omega arith)
-          (rw (grown w from to k x, rest w from to k x l, append-assoc) (rw (thin-covered (candOf h) (candOf x) (part (from + 1) (at + n) (cands w)) b c) at opened)))
+          (rw (grown w from to k x, rest w from to k x l, append-assoc) (rw (thin-covered (candOf h) (candOf x) (part (from + 1) (at + n) (cands w)) b) at opened)))
 
       placed : Below (candOf h) (candOf x) → Shifting (passOf Insert left from at to h v) x t → Inv (t .next) (set w to (t .put))
       placed b is =
@@ -154,22 +156,22 @@ module _ (w₀ : List Cand) (at n : ℕ) (h : Cand) (v : Femtosecond) (inside : 
     -- the four ways the held one stands to the next, and none left
     search : 0 < left → Turned Insert (passOf Insert left from at to h v) x (getD w at zeros) t → Inv (t .next) (set w to (t .put))
     search l is =
-        go (ltb left 2) (isBelow (x .load .0) (x .time .0) (h .load .0) (h .time .0)) (isCovering (h .load .0) (h .time .0) (x .load .0) (x .time .0)) (isCovering (x .load .0) (x .time .0) (h .load .0) (h .time .0))
+        go (ltb left 2) (isBelow (x .load .0) (x .time .0) (h .load .0) (h .time .0)) (isCovered (h .load .0) (h .time .0) (x .load .0) (x .time .0)) (isCovering (h .load .0) (h .time .0) (x .load .0) (x .time .0))
         (ltb-true left 2) (ltb-false left 2) (below-yes (candOf x) (candOf h)) (below-no (candOf x) (candOf h))
-        (covering-yes (candOf h) (candOf x)) (covering-no (candOf h) (candOf x)) (covering-yes (candOf x) (candOf h)) (covering-no (candOf x) (candOf h)) is
+        (covered-yes (candOf h) (candOf x)) (covered-no (candOf h) (candOf x)) (covering-yes (candOf h) (candOf x)) (covering-no (candOf h) (candOf x)) is
       where
         go : (a b c d : Bool) → (a ≡ true → left < 2) → (a ≡ false → 2 ≤ left) → (b ≡ true → Below (candOf x) (candOf h)) → (b ≡ false → Below (candOf x) (candOf h) → ⊥)
-            → (c ≡ true → Covers (candOf h) (candOf x)) → (c ≡ false → Covers (candOf h) (candOf x) → ⊥) → (d ≡ true → Covers (candOf x) (candOf h)) → (d ≡ false → Covers (candOf x) (candOf h) → ⊥)
+            → (c ≡ true → Covers (candOf x) (candOf h)) → (c ≡ false → Covers (candOf x) (candOf h) → ⊥) → (d ≡ true → Covers (candOf h) (candOf x)) → (d ≡ false → Covers (candOf h) (candOf x) → ⊥)
             → cond a (Shifting (passOf Insert left from at to h v) x t)
             (cond b ((t .put ≡ x) × (t .next ≡ passOf Insert (left - 1) (from + 1) at (to + 1) h v))
-            (cond c ((t .put ≡ x) × (t .next ≡ passOf Insert (left - 1) (from + 1) at to h v))
-            (cond d ((t .put ≡ x) × (t .next ≡ passOf Move (left - 2) (from + 1) at (to + 1) h v)) (Shifting (passOf Insert left from at to h v) x t))))
+            (cond c ((t .put ≡ x) × (t .next ≡ passOf Move (left - 2) (from + 1) at (to + 1) h v))
+            (cond d ((t .put ≡ x) × (t .next ≡ passOf Insert (left - 1) (from + 1) at to h v)) (Shifting (passOf Insert left from at to h v) x t))))
             → Inv (t .next) (set w to (t .put))
         go true b c d a₁ a₂ b₁ b₂ c₁ c₂ d₁ d₂ is = last l (a₁ refl) is
         go false true c d a₁ a₂ b₁ b₂ c₁ c₂ d₁ d₂ is = passed (omega (arith, a₂ refl)) (b₁ refl) is
-        go false false true d a₁ a₂ b₁ b₂ c₁ c₂ d₁ d₂ is = dropped (omega (arith, a₂ refl)) (c₁ refl) is
-        go false false false true a₁ a₂ b₁ b₂ c₁ c₂ d₁ d₂ is = beaten (omega (arith, a₂ refl)) (d₁ refl) (c₂ refl) is
-        go false false false false a₁ a₂ b₁ b₂ c₁ c₂ d₁ d₂ is = placed (omega (arith, a₂ refl)) (stands-below (candOf h) (candOf x) (b₂ refl) (c₂ refl) (d₂ refl)) is
+        go false false true d a₁ a₂ b₁ b₂ c₁ c₂ d₁ d₂ is = stays (omega (arith, a₂ refl)) (c₁ refl) is
+        go false false false true a₁ a₂ b₁ b₂ c₁ c₂ d₁ d₂ is = dropped (omega (arith, a₂ refl)) (d₁ refl) (c₂ refl) is
+        go false false false false a₁ a₂ b₁ b₂ c₁ c₂ d₁ d₂ is = placed (omega (arith, a₂ refl)) (stands-below (candOf h) (candOf x) (b₂ refl) (d₂ refl) (c₂ refl)) is
 
   step : (p : Pass) (w : List Cand) → Inv p w → 0 < p .left → (t : Turn) → Turned (p .step) p (first p w) (second p w) t → Inv (t .next) (set w (p .to) (t .put))
   step p w (ended e k) l t is = absurd (omega arith)

@@ -5,9 +5,9 @@ use Prim.Native.Nat.{_≤_, _<_}
 use lib.ListN.{length, getD, set}
 use Rattle.rules.specs.Quantities.{workRoom}
 use Rattle.rules.specs.declared.Cand.{Cand}
+use Rattle.rules.specs.Areas.{zeros}
 use Rattle.turns.specs.declared.Pass.{Pass}
 use Rattle.turns.specs.declared.Turn.{Turn}
-use Rattle.rules.specs.Promises.{zeros}
 use Rattle.values.specs.Records.{candOf}
 use Rattle.turns.specs.Turns.{Here, Can, Turned}
 

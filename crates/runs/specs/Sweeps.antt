@@ -7,7 +7,7 @@ use native.Mathlib.Omega.{arith}
 use lib.Dec.{ltb}
 use lib.Signed.{ltZ}
 use lib.ListN.{set}
-use Rattle.pairs.specs.Stands.{isBelow, isCovering}
+use Rattle.pairs.specs.Stands.{isBelow, isCovering, isCovered}
 use Rattle.rules.specs.declared.Cand.{Cand}
 use Rattle.turns.specs.declared.Step.{Step}
 use Rattle.turns.specs.declared.Step.the-variants.{Put, Move, FirstWire, Wire, FirstChoice, Choose, Insert, Shift, Branch}
@@ -36,13 +36,13 @@ turned-less (Choose own r) p x y t h l = go (ltZ (p .worth .0) (worthOf own r x 
     go : (b : Bool) → t .next ≡ cond b (passOf (Choose own r) (p .left - 1) (p .from + 1) (p .with) (p .to + 1) x (worthOf own r x)) (passOf (Choose own r) (p .left - 1) (p .from + 1) (p .with) (p .to + 1) (p .held) (p .worth)) → t .next .left < p .left
     go true e = less-by p t _ 0 e refl l
     go false e = less-by p t _ 0 e refl l
-turned-less Insert p x y t h l = go (ltb (p .left) 2) (isBelow (x .load .0) (x .time .0) (p .held .load .0) (p .held .time .0)) (isCovering (p .held .load .0) (p .held .time .0) (x .load .0) (x .time .0)) (isCovering (x .load .0) (x .time .0) (p .held .load .0) (p .held .time .0)) h
+turned-less Insert p x y t h l = go (ltb (p .left) 2) (isBelow (x .load .0) (x .time .0) (p .held .load .0) (p .held .time .0)) (isCovered (p .held .load .0) (p .held .time .0) (x .load .0) (x .time .0)) (isCovering (p .held .load .0) (p .held .time .0) (x .load .0) (x .time .0)) h
   where
-    go : (a b c d : Bool) → cond a (Shifting p x t) (cond b ((t .put ≡ x) × (t .next ≡ passOf Insert (p .left - 1) (p .from + 1) (p .with) (p .to + 1) (p .held) (p .worth))) (cond c ((t .put ≡ x) × (t .next ≡ passOf Insert (p .left - 1) (p .from + 1) (p .with) (p .to) (p .held) (p .worth))) (cond d ((t .put ≡ x) × (t .next ≡ passOf Move (p .left - 2) (p .from + 1) (p .with) (p .to + 1) (p .held) (p .worth))) (Shifting p x t)))) → t .next .left < p .left
+    go : (a b c d : Bool) → cond a (Shifting p x t) (cond b ((t .put ≡ x) × (t .next ≡ passOf Insert (p .left - 1) (p .from + 1) (p .with) (p .to + 1) (p .held) (p .worth))) (cond c ((t .put ≡ x) × (t .next ≡ passOf Move (p .left - 2) (p .from + 1) (p .with) (p .to + 1) (p .held) (p .worth))) (cond d ((t .put ≡ x) × (t .next ≡ passOf Insert (p .left - 1) (p .from + 1) (p .with) (p .to) (p .held) (p .worth))) (Shifting p x t)))) → t .next .left < p .left
     go true b c d e = less-by p t _ 0 (e .1) refl l
     go false true c d e = less-by p t _ 0 (e .1) refl l
-    go false false true d e = less-by p t _ 0 (e .1) refl l
-    go false false false true e = less-by p t _ 1 (e .1) refl l
+    go false false true d e = less-by p t _ 1 (e .1) refl l
+    go false false false true e = less-by p t _ 0 (e .1) refl l
     go false false false false e = less-by p t _ 0 (e .1) refl l
 turned-less Shift p x y t h l = less-by p t _ 0 (h .1) refl l
 turned-less (Branch end mid) p x y t h l = go (ltb (onFrom p x y) end) (ltb (onWith p x y) mid) (ap (λ (z : Pass). z .left) (h .1))

@@ -22,10 +22,10 @@ use Rattle.columns.specs.Made.{Fit, Stand, Gives, wireOf}
 use Rattle.wires.specs.Wiring.{Wiring, wiring-start, wiring-end, wiring-next, wiring-made}
 use Rattle.wires.specs.Wiring.{step as wiring-step}
 use Rattle.rules.specs.declared.Cand.{Cand}
+use Rattle.rules.specs.Areas.{zeros}
 use Rattle.turns.specs.declared.Step.the-variants.{FirstWire, Wire}
 use Rattle.turns.specs.declared.Pass.{Pass}
 use Rattle.turns.specs.declared.Turn.{Turn}
-use Rattle.rules.specs.Promises.{zeros}
 use Rattle.values.specs.Records.{candOf, cands}
 use Rattle.runs.specs.Cands.{cands-length, cands-at, cands-set}
 use Rattle.turns.specs.Turns.{passOf, Turned}

@@ -4,8 +4,8 @@ use turns::Pass;
 ghost use mathlib.Core.Path.{_≡_};
 ghost use Prim.Native.Nat.{_<_};
 ghost use lib.ListN.{length, getD};
-ghost use Rattle.rules.specs.Promises.{zeros};
 ghost use Rattle.runs.specs.Passes.{Ready, Took, Safe, Swept};
+ghost use Rattle.rules.specs.Areas.{zeros};
 
 // One record.
 pub fn read_at(run: &[Cand], i: usize) -> Cand

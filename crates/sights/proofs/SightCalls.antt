@@ -33,8 +33,9 @@ use Rattle.rules.proofs.Cand as T
 use Rattle.runs.proofs.Lending.{at-list, Slice, Sent, Back}
 use lib.ListN.{getD}
 use Rattle.rules.specs.Quantities.{rowsRoom}
+use Rattle.rooms.specs.Links.{nextAt, linksRoom}
 use Rattle.laws.specs.Tabled.{rowsFrom}
-use Rattle.rows.specs.Links.{linksRoom, nextAt, Standing, Earlier, Links}
+use Rattle.rows.specs.Links.{Standing, Earlier, Links}
 use Rattle.jobs.specs.Jobs.{RowIn}
 use Rattle.sights.specs.Hanging.{firstAt, nextOf, Hangs, Hung, Follows, Sees, Seen, Makes}
 use Rattle.sights.proofs.first_at as first-at

@@ -5,6 +5,7 @@ use Prim.Native.Nat.{ℕ, _+_, _-_, _*_, _≤_, _<_}
 use native.Mathlib.Omega.{arith}
 use lib.IntN.{ℤ}
 use lib.ListN.{length, length-drop}
+use Rattle.rules.specs.Quantities.{typesRoom}
 use Rattle.laws.specs.Room.{room-at}
 use Rattle.laws.specs.Walk.{atRow-seen}
 use Rattle.laws.specs.Tabled.{rowsFrom, rows-length, repeaters-length}
@@ -12,7 +13,7 @@ use Rattle.rows.specs.Links.{Links}
 use Rattle.rows.specs.Given.{standing, areas, net-accepted}
 use Rattle.rules.specs.declared.Cand.{Cand}
 use Rattle.jobs.specs.Jobs.{RowIn, siteAt, Able, Worked}
-use Rattle.jobs.specs.JobSteps.{worked-behind}
+use Rattle.jobs.specs.JobSteps.{worked-past}
 use Rattle.sights.specs.Hanging.{firstAt, Hangs, Hung, Sees, Seen, Makes}
 use Rattle.sights.specs.Sights.{row-there, types-few, first-after, under-hangs, sight-able, sight-made}
 
@@ -31,11 +32,11 @@ module _ (ws : List ℕ) (ds : List ℤ) (ts ls : List ℕ) (count n c at : ℕ)
       row-able : Able ts (siteAt ws ds ls count c at under) w₁
       row-able = sight-able ws ds ts ls count n (S .net) c (S .inside) at (S .room) first F w w₁ (rw same₁ (S .long)) under U
 
-      pub row-site-asks : RowIn ws ds ls c × ((count ≤ 4) × Able ts (siteAt ws ds ls count c at under) w₁)
+      pub row-site-asks : RowIn ws ds ls c × ((count ≤ typesRoom) × Able ts (siteAt ws ds ls count c at under) w₁)
       row-site-asks = (row-asks, (types-few ws ds ts ls count n (S .net), row-able))
 
       pub seen-by : (w₂ : List Cand) (len : ℕ) → Worked ts (siteAt ws ds ls count c at under) w₁ w₂ len → Seen ws ds ts count n c at w w₂ len
-      seen-by w₂ len G = record { made = sight-made ws ds ts ls count n (S .net) c (S .inside) at (S .room) first F w w₁ (rw same₁ (S .long)) under U w₂ len G; beyond = worked-behind row-able G ∙ U .beyond }
+      seen-by w₂ len G = record { made = sight-made ws ds ts ls count n (S .net) c (S .inside) at (S .room) first F w w₁ (rw same₁ (S .long)) under U w₂ len G; beyond = worked-past row-able G ∙ U .beyond }
 
 pub makes-sees : (rows : List ℕ) (due : List ℤ) (types links : List ℕ) (count n row : ℕ) (w : List Cand) → Makes rows due types count n row w → Links (rowsFrom rows due 0 n) links → Sees rows due types links count n row 0 w
 makes-sees rows due types links count n row w m l = record {

@@ -16,17 +16,18 @@ use Rattle.laws.specs.Rows.{row-in}
 use Rattle.laws.specs.Room.{HasRoom}
 use Rattle.laws.specs.Walk.{noRow, seenAt, child}
 use Rattle.laws.specs.Tabled.{rowAt, rowsFrom, repeatersFrom}
-use Rattle.rows.specs.Links.{linksRoom, row-is}
+use Rattle.rows.specs.Links.{row-is}
 use Rattle.columns.specs.Parts.{part, part-nil, part-length}
 use Rattle.walks.specs.Made.{Made, Wired, Hang}
 use Rattle.walks.specs.Links.{from, room-next, room-alone}
 use Rattle.walks.specs.Recursion.{next-there, alone-wired, alone-made, own-room, beside-hang, beside-made}
 use Rattle.rules.specs.declared.Cand.{Cand}
+use Rattle.rooms.specs.Links.{linksRoom}
 use Rattle.values.specs.Records.{cands}
 use Rattle.runs.specs.Cands.{cands-length}
 use Rattle.stages.specs.declared.Job.{Job}
 use Rattle.jobs.specs.Jobs.{RowIn, hangJob, hangAt, Able, Worked}
-use Rattle.jobs.specs.JobSteps.{worked-behind}
+use Rattle.jobs.specs.JobSteps.{worked-past}
 use Rattle.jobs.specs.HangJobs.{alone-able, alone-worked, both-able, both-worked}
 use Rattle.sights.specs.Hanging.{Net, nextOf, Hangs, Hung, Follows, Sees, Seen}
 use Rattle.sights.specs.Sights.{rows-n, types-n, from-none, row-there}
@@ -101,7 +102,7 @@ module _ (ws : List ℕ) (ds : List ℤ) (ts ls : List ℕ) (count n c at : ℕ)
     pub later-hung : {w₁ : List Cand} {len : ℕ} → Hung ws ds ts count n r at w w₁ len → Hung ws ds ts count n next at w w₁ len
     later-hung h = rw r-is at h
 
-  -- ---- the row's own list behind them
+  -- ---- the row's own list after them
   pub follows : Follows ws ds ts ls count n c at w
   follows = record { hangs = H; more = more }
 
@@ -197,7 +198,7 @@ module _ (ws : List ℕ) (ds : List ℤ) (ts ls : List ℕ) (count n c at : ℕ)
       hang-asks = (row-in-c, hang-able)
 
       pub hung : (w₃ : List Cand) (len : ℕ) → Worked ts hang w₂ w₃ len → Hung ws ds ts count n c at w w₃ len
-      hung w₃ len G = record { made = go (decLt next n); beyond = worked-behind hang-able G ∙ O .beyond ∙ L .beyond }
+      hung w₃ len G = record { made = go (decLt next n); beyond = worked-past hang-able G ∙ O .beyond ∙ L .beyond }
         where
           go : Dec (next < n) → Made types (from R c) (cands w) (cands w₃) at len
           go (yes l) = next-made l w₃ len G

@@ -6,17 +6,18 @@ use Prim.Native.Nat.{ℕ, _+_, _-_, _*_, _≤_, _<_}
 use lib.IntN.{ℤ}
 use lib.ListN.{length, getD, drop}
 use Rattle.rules.specs.Quantities.{typesRoom, workRoom}
-use Rattle.rules.specs.Tables.{typeWords}
+use Rattle.rules.specs.Tables.{typeWords, tablesOf, countsOf}
 use Rattle.rules.specs.Refusals.{isSink}
 use Rattle.laws.specs.Accepted.{Accepted}
 use Rattle.laws.specs.Room.{HasRoom}
 use Rattle.laws.specs.Walk.{seenAt}
 use Rattle.laws.specs.Tabled.{rowAt, rowsFrom, repeatersFrom}
-use Rattle.laws.specs.Checked.{tablesOf, countsOf, Passed}
-use Rattle.rows.specs.Links.{Standing, Links, nextAt}
+use Rattle.laws.specs.Checked.{Passed}
+use Rattle.rows.specs.Links.{Standing, Links}
 use Rattle.walks.specs.Made.{Made}
 use Rattle.walks.specs.Links.{from}
 use Rattle.rules.specs.declared.Cand.{Cand}
+use Rattle.rooms.specs.Links.{nextAt}
 use Rattle.values.specs.Records.{cands}
 
 -- an accepted net in its tables, with its links

@@ -12,7 +12,7 @@ use Rattle.rules.specs.declared.Kind.{Kind}
 use Rattle.rules.specs.declared.Kind.the-variants.{Driver, Point, Sink}
 use Rattle.rules.specs.declared.Pin.{Pin}
 use Rattle.rules.specs.declared.Row.{Row}
-use Rattle.rules.specs.Quantities.{workRoom}
+use Rattle.rules.specs.Quantities.{workRoom, typesRoom}
 use Rattle.rules.specs.Entries.{Repeater}
 use Rattle.rules.specs.Refusals.{isSink}
 use Rattle.rules.specs.Slack.{typeOf}
@@ -21,12 +21,13 @@ use Rattle.laws.specs.Room.{HasRoom}
 use Rattle.laws.specs.Walk.{noRow, sitesBefore, seenAt, child, under-end}
 use Rattle.laws.specs.Tabled.{rowAt, rowsFrom, rows-length, repeatersFrom, repeaters-length, repeaters-at}
 use Rattle.marks.specs.Marks.{marks-zero}
-use Rattle.rows.specs.Links.{sitesAt, row-is}
+use Rattle.rows.specs.Links.{row-is}
 use Rattle.columns.specs.Run.{candidate}
 use Rattle.walks.specs.Made.{Made, Sited, Typed}
 use Rattle.walks.specs.Links.{from}
 use Rattle.walks.specs.Recursion.{pin-sited, pin-made, first-there, first-room, under-sited, under-made}
 use Rattle.rules.specs.declared.Cand.{Cand}
+use Rattle.rooms.specs.Links.{sitesAt}
 use Rattle.turns.specs.declared.Pass.{Pass}
 use Rattle.values.specs.Records.{cands}
 use Rattle.runs.specs.Cands.{cands-length, cands-set}
@@ -69,7 +70,7 @@ module _ (ws : List ℕ) (ds : List ℤ) (ts ls : List ℕ) (count n : ℕ) (N :
   pub row-there : (c : ℕ) → c < n → RowIn ws ds ls c
   row-there c h = record { few = omega (arith, N .standing); words = omega (arith, N .standing); times = omega (arith, N .standing); links-long = N .linked .long }
 
-  pub types-few : count ≤ 4
+  pub types-few : count ≤ typesRoom
   types-few = typed .few
 
   -- ---- at row c, made at p
@@ -130,7 +131,7 @@ module _ (ws : List ℕ) (ds : List ℤ) (ts ls : List ℕ) (count n : ℕ) (N :
       abbrev j : Job
       j = siteJob x k count p below
 
-      fits : a + below ≤ 768
+      fits : a + below ≤ workRoom
       fits = rw (past-end p) (U .made .fits)
 
       made-a : Made types (from R first) (cands w₁) (cands w₂) a below

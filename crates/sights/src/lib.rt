@@ -1,4 +1,5 @@
 // The planner's recursion over the table, in the run: the list of what hangs from a row on, and the list at a row.
+use rooms::links::LINKS_ROOM;
 use rules::Cand;
 ghost use mathlib.Core.Path.{_≡_};
 ghost use Prim.Native.Nat.{_<_};
@@ -21,7 +22,7 @@ pub fn first_at(rows: &[u32], due: &[i64], links: &[u16], n: usize, c: usize) ->
 }
 
 // The list of row c behind its wire and of the rows after it under the same parent, made at a place: the later rows first, the row's own
-// behind them. Past the last row there is nothing.
+// after them. Past the last row there is nothing.
 pub fn below(
     run: &mut [Cand],
     rows: &[u32],
@@ -85,11 +86,11 @@ pub fn seen(
 }
 
 // Where the rows below each row stand.
-pub fn links_of(rows: &[u32], due: &[i64], n: usize) -> [u16; 768]
+pub fn links_of(rows: &[u32], due: &[i64], n: usize) -> [u16; LINKS_ROOM]
     requires { ⌜ Standing (now rows) (now due) n × Earlier (rowsFrom (now rows) (now due) 0 n) ⌝ }
     ensures { λ r. ⌜ Links (rowsFrom (now (rows .entry)) (now (due .entry)) 0 n) r ⌝ }
 {
-    let mut links = [0u16; 768];
+    let mut links = [0u16; LINKS_ROOM];
     rows::link(rows, due, n, &mut links);
     links
 }

@@ -6,6 +6,7 @@ use native.Mathlib.Omega.{arith}
 use native.Mathlib.Nat.{zero-add}
 use lib.ListN.{length}
 use Rattle.rules.specs.Quantities.{typesRoom}
+use Rattle.rules.specs.Tables.{typeWords}
 use Rattle.rules.specs.Entries.{Repeater}
 use Rattle.rules.specs.Slack.{typeOf}
 use Rattle.laws.specs.Ranges.{RepeaterInRange}
@@ -29,12 +30,8 @@ repeaters-type words count t h = repeaters-at words _ 0 count t h ∙ ap (repeat
 -- the words have the types, each in its range
 pub record TypesIn (words : List ℕ) (count : ℕ) : Type 0 where
   pub few : count ≤ typesRoom
-  pub long : 3 * count ≤ length words
+  pub long : typeWords * count ≤ length words
   pub known : (t : ℕ) → t < count → RepeaterInRange (repeaterAt words t)
-
--- as the laws on ranges have it
-pub types-in : {words : List ℕ} {count : ℕ} → count ≤ typesRoom → 3 * count ≤ length words → ((n : ℕ) → n < length (repeatersOf words count) → RepeaterInRange (typeOf (repeatersOf words count) (suc n))) → TypesIn words count
-types-in {words} {count} h k f = record { few = h; long = k; known = λ t l. rw (repeaters-type words count t l) at (f t (rw (repeaters-length words count) l)) }
 
 pub types-fewer : {words : List ℕ} {count : ℕ} (t : ℕ) → t < count → TypesIn words count → TypesIn words (t + 1)
 types-fewer t h r = record { few = omega (arith, r .few); long = omega (arith, r .long); known = λ j k. r .known j (omega arith) }

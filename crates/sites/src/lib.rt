@@ -3,16 +3,13 @@ use columns::cells;
 use columns::choices;
 use columns::moves;
 use inserts::Bounds;
-use rooms::TYPE_WORDS;
-use rules::Femtofarad;
-use rules::Ohm;
 ghost use mathlib.Core.Path.{_≡_};
-ghost use Prim.Native.Nat.{_+_, _*_, _≤_, _<_};
+ghost use Prim.Native.Nat.{_+_, _≤_, _<_};
 ghost use lib.ListN.{length, set};
 ghost use Rattle.rules.specs.Quantities.{sitesRoom, workRoom};
-ghost use Rattle.rules.specs.Lists.{Pairwise};
+ghost use Rattle.laws.specs.Lists.{EveryTwo};
 ghost use Rattle.laws.specs.Candidates.{Below};
-ghost use Rattle.laws.specs.Joining.{set as mark};
+ghost use Rattle.laws.specs.Joining.{withMark};
 ghost use Rattle.laws.specs.Moves.{siteStep};
 ghost use Rattle.columns.specs.Parts.{part};
 ghost use Rattle.columns.specs.Run.{run};
@@ -36,26 +33,17 @@ pub fn put_choice(
     requires { ⌜ Room (now loads) (now times) (now words) ⌝ }
     requires { ⌜ Stand (run (now loads) (now times) (now words)) at n ⌝ }
     requires { ⌜ (k < sitesRoom) × (to < workRoom) ⌝ }
-    ensures { λ _. ⌜ run (now (loads .exit)) (now (times .exit)) (now (words .exit)) ≡ set (run (now (loads .entry)) (now (times .entry)) (now (words .entry))) to (chosenBy (repeaterAt (now (types .entry)) t) (mark k (t + 1)) (part at (at + n) (run (now (loads .entry)) (now (times .entry)) (now (words .entry))))) ⌝ }
+    ensures { λ _. ⌜ run (now (loads .exit)) (now (times .exit)) (now (words .exit)) ≡ set (run (now (loads .entry)) (now (times .entry)) (now (words .entry))) to (chosenBy (repeaterAt (now (types .entry)) t) (withMark k (t + 1)) (part at (at + n) (run (now (loads .entry)) (now (times .entry)) (now (words .entry))))) ⌝ }
 {
-    let input = types[TYPE_WORDS * t];
-    let ohms = types[TYPE_WORDS * t + 1];
-    let own = types[TYPE_WORDS * t + 2];
-    let best = choices::best_from(loads, times, at, n, own, Ohm(ohms));
+    let b = repeaters::type_at(types, t);
+    let input = b.input;
+    let resistance = b.resistance;
+    let own = b.own;
+    let best = choices::best_from(loads, times, at, n, own, resistance);
     let from = best.at;
     let time = best.value;
     let m = t as u64;
-    cells::typed_at(
-        loads,
-        times,
-        words,
-        from,
-        to,
-        Femtofarad(input),
-        time,
-        k,
-        m + 1,
-    );
+    cells::typed_at(loads, times, words, from, to, input, time, k, m + 1);
 }
 
 // The best of each type, from `base` on.
@@ -97,9 +85,9 @@ pub fn put_types(
     requires { ⌜ TypesIn (now types) count ⌝ }
     requires { ⌜ Room (now loads) (now times) (now words) ⌝ }
     requires { ⌜ Stand (run (now loads) (now times) (now words)) at n ⌝ }
-    requires { ⌜ Pairwise Below (part at (at + n) (run (now loads) (now times) (now words))) ⌝ }
+    requires { ⌜ EveryTwo Below (part at (at + n) (run (now loads) (now times) (now words))) ⌝ }
     requires { ⌜ (k < sitesRoom) × (at + n + count + count ≤ workRoom) ⌝ }
-    ensures { λ r. ⌜ Gives (run (now (loads .entry)) (now (times .entry)) (now (words .entry))) (run (now (loads .exit)) (now (times .exit)) (now (words .exit))) at r (siteStep (repeatersOf (now (types .entry)) count) (mark k) (length (repeatersOf (now (types .entry)) count)) (part at (at + n) (run (now (loads .entry)) (now (times .entry)) (now (words .entry))))) ⌝ }
+    ensures { λ r. ⌜ Gives (run (now (loads .entry)) (now (times .entry)) (now (words .entry))) (run (now (loads .exit)) (now (times .exit)) (now (words .exit))) at r (siteStep (repeatersOf (now (types .entry)) count) (withMark k) (length (repeatersOf (now (types .entry)) count)) (part at (at + n) (run (now (loads .entry)) (now (times .entry)) (now (words .entry))))) ⌝ }
 {
     let base = at + n + count;
     put_choices(types, count, loads, times, words, at, n, k, base);

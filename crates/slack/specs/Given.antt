@@ -2,7 +2,7 @@
 use mathlib.Core.Path.{_≡_, refl, sym, ap, _∙_}
 use mathlib.Core.Bool.{Bool, true, false, _||_}
 use mathlib.Core.List.{List}
-use mathlib.Core.Option.{Option, none, some, Option·some-ne-none}
+use mathlib.Core.Option.{Option, none, some, Option·some-ne-none, orElse}
 use Prim.Native.Nat.{ℕ, _*_, _≤_}
 use native.Mathlib.Omega.{arith}
 use lib.IntN.{ℤ}
@@ -13,16 +13,18 @@ use Rattle.rules.specs.declared.Refusal.the-variants.{Short}
 use Rattle.rules.specs.declared.Row.{Row}
 use Rattle.rules.specs.declared.Slacking.{Slacking}
 use Rattle.rules.specs.declared.Slacking.the-variants.{Refused}
-use Rattle.rules.specs.Lists.{orElse, when}
+use Rattle.rules.specs.Lists.{givenWhen}
 use Rattle.rules.specs.Quantities.{_⊖_}
 use Rattle.rules.specs.Entries.{Entry, typesOf, rowsOf}
-use Rattle.rules.specs.Tables.{Tables, Counts, shortTables, tableEntries}
+use Rattle.rules.specs.Tables.{Tables, Counts, shortTables, tableEntries, tablesOf, countsOf}
 use Rattle.rules.specs.Refusals.{refusalOf}
 use Rattle.rules.specs.Placements.{marks, placementRefusal}
 use Rattle.rules.specs.Net.{Tree, atRow, driverOhms}
-use Rattle.rules.specs.Slack.{load}
+use Rattle.rules.specs.Slack.{loadOf}
 use Rattle.rules.specs.Answers.{slackFigures, Timing}
-use Rattle.rules.specs.Promises.{tablesRefusal, shortPlacement, slackRefusal, SlackPromise}
+use Rattle.rules.specs.Promises.{slackRefusal, SlackPromise, netRefusal, tabled}
+use Rattle.rules.specs.Areas.{shortPlacement}
+use Rattle.laws.specs.Tests.{both-false}
 use Rattle.laws.specs.Trees.{time, slack-is}
 use Rattle.laws.specs.Accepted.{accepted}
 use Rattle.laws.specs.Rows.{rows-two}
@@ -31,8 +33,8 @@ use Rattle.laws.specs.Legality.{marks-legality}
 use Rattle.laws.specs.Tabled.{rowAt, rowsFrom, rows-length, repeatersFrom, repeaters-length}
 use Rattle.laws.specs.Walk.{seenAt, atRow-seen}
 use Rattle.laws.specs.Checked.{Passed}
-use Rattle.rows.specs.Given.{neither, held, areas, net-accepted, standing, driver-is}
-use Rattle.net.specs.TableSteps.{checking, tablesOf, countsOf}
+use Rattle.rows.specs.Given.{held, areas, net-accepted, standing, driver-is}
+use Rattle.net.specs.TableSteps.{checking}
 use Rattle.upward.specs.Hung.{seenAs, slackHung}
 use Rattle.slack.specs.Hung.{hungOf}
 use Rattle.slack.specs.Ready.{Sound, hungAt}
@@ -45,7 +47,8 @@ pub record Given (types rows : List ℕ) (due : List ℤ) (count n : ℕ) (words
   pub words-long : shortPlacement words ≡ false
   pub accepted : refusalOf (tableEntries (tablesOf types rows due) (countsOf count n)) ≡ none
 
-passed : (b : Bool) (rest : Option Refusal) → orElse (when b Short) rest ≡ none → (b ≡ false) × (rest ≡ none)
+passed : (b : Bool) (rest : Option Refusal) → orElse (givenWhen b Short) rest ≡ none → (b ≡ false) × (rest ≡ none)
+unfolding orElse
 passed true rest e = absurd (Option·some-ne-none Short e)
 passed false rest e = (refl, e)
 
@@ -89,12 +92,12 @@ module _ {types rows : List ℕ} {due : List ℤ} {count n : ℕ} {words : List 
 
   -- ---- what is answered
   -- only refusal 6 is left
-  settles : slackRefusal (tablesOf types rows due) (countsOf count n) words ≡ placementRefusal es (marks words)
-  unfolding slackRefusal tablesRefusal
+  settles : slackRefusal (tabled (tablesOf types rows due) (countsOf count n)) words ≡ placementRefusal es (marks words)
+  unfolding slackRefusal netRefusal orElse
   settles = rw (G .tables-long, G .words-long, G .accepted)
 
   -- refusal 6
-  pub promise-refused : {r : Refusal} → Stops r ≡ checking (placementRefusal es (marks words)) → SlackPromise (tablesOf types rows due) (countsOf count n) words (Refused r)
+  pub promise-refused : {r : Refusal} → Stops r ≡ checking (placementRefusal es (marks words)) → SlackPromise (tabled (tablesOf types rows due) (countsOf count n)) words (Refused r)
   unfolding SlackPromise slackFigures
   promise-refused e = rw (settles, stops-is (placementRefusal es (marks words)) e) refl
 
@@ -106,7 +109,7 @@ module _ {types rows : List ℕ} {due : List ℤ} {count n : ℕ} {words : List 
     ohms : rowAt rows due 0 .resistance .0 ≡ driverOhms (rowsOf es)
     ohms = driver-is pass ∙ rw (held pass .rows-are)
 
-    hung : hungAt rows due types words n 0 ≡ seenAs (load (typesOf es) (marks words) (tree .0)) (time (typesOf es) (marks words) (tree .0))
+    hung : hungAt rows due types words n 0 ≡ seenAs (loadOf (typesOf es) (marks words) (tree .0)) (time (typesOf es) (marks words) (tree .0))
     unfolding hungAt hungOf
     hung =
         let l = rows-length rows due 0 n in
@@ -115,23 +118,23 @@ module _ {types rows : List ℕ} {due : List ℤ} {count n : ℕ} {words : List 
         ∙ rw (held pass .types-are)
 
     timing : Timing
-    timing = record { slack = time (typesOf es) (marks words) (tree .0) ⊖ (driverOhms (rowsOf es) * load (typesOf es) (marks words) (tree .0)); load = load (typesOf es) (marks words) (tree .0) }
+    timing = record { slack = time (typesOf es) (marks words) (tree .0) ⊖ (driverOhms (rowsOf es) * loadOf (typesOf es) (marks words) (tree .0)); load = loadOf (typesOf es) (marks words) (tree .0) }
 
     -- the slack, and the load on the driver
-    pub promise-timed : {answer : Slacking} → answer ≡ slackHung (rowAt rows due 0 .resistance .0) (hungAt rows due types words n 0) → SlackPromise (tablesOf types rows due) (countsOf count n) words answer
+    pub promise-timed : {answer : Slacking} → answer ≡ slackHung (rowAt rows due 0 .resistance .0) (hungAt rows due types words n 0) → SlackPromise (tabled (tablesOf types rows due) (countsOf count n)) words answer
     unfolding SlackPromise slackFigures slackHung timing
     promise-timed e = rw (settles, h) (timing, rw (e, hung, ohms) refl, record { tree = tree .0; tree-is = tree .1; slack = slack-is (typesOf es) (marks words) (driverOhms (rowsOf es)) (tree .0); load = refl })
 
 -- ---- from the check of the tables
 -- what it refused
-pub promise-checked : (t : Tables) (n : Counts) (words : List ℕ) {r : Refusal} → Stops r ≡ checking (tablesRefusal (shortPlacement words) t n) → SlackPromise t n words (Refused r)
-unfolding SlackPromise slackRefusal slackFigures
-promise-checked t n words e = rw (stops-is (tablesRefusal (shortPlacement words) t n) e) refl
+pub promise-checked : (t : Tables) (n : Counts) (words : List ℕ) {r : Refusal} → Stops r ≡ checking (netRefusal (shortPlacement words) (tabled t n)) → SlackPromise (tabled t n) words (Refused r)
+unfolding SlackPromise slackRefusal slackFigures orElse
+promise-checked t n words e = rw (stops-is (netRefusal (shortPlacement words) (tabled t n)) e) refl
 
 -- what it accepted
-pub given-of : {types rows : List ℕ} {due : List ℤ} {count n : ℕ} {words : List ℕ} → Passes ≡ checking (tablesRefusal (shortPlacement words) (tablesOf types rows due) (countsOf count n)) → Given types rows due count n words
-unfolding tablesRefusal
+pub given-of : {types rows : List ℕ} {due : List ℤ} {count n : ℕ} {words : List ℕ} → Passes ≡ checking (netRefusal (shortPlacement words) (tabled (tablesOf types rows due) (countsOf count n))) → Given types rows due count n words
+unfolding netRefusal orElse
 given-of {types} {rows} {due} {count} {n} {words} e =
     let (b, a) = passed (shortTables (tablesOf types rows due) || shortPlacement words) (refusalOf (tableEntries (tablesOf types rows due) (countsOf count n))) (passes-is _ e) in
-    let (t, w) = neither (shortTables (tablesOf types rows due)) (shortPlacement words) b in
+    let (t, w) = both-false (shortTables (tablesOf types rows due)) (shortPlacement words) b in
     record { tables-long = t; words-long = w; accepted = a }

@@ -13,7 +13,7 @@ use Rattle.rules.specs.Entries.{Repeater}
 use Rattle.rules.specs.Placements.{Placement, marks}
 use Rattle.rules.specs.Tables.{typeWords}
 use Rattle.rules.specs.Net.{Wire, Tree, sink, site, sited, seen, wired, beside}
-use Rattle.rules.specs.Slack.{typeOf, seenLoad, repeaterDelay, wireDelay, load}
+use Rattle.rules.specs.Slack.{typeOf, seenLoad, repeaterDelay, wireDelay, loadOf}
 use Rattle.laws.specs.Integers.{⊖-zero}
 use Rattle.laws.specs.Trees.{time}
 use Rattle.laws.specs.Ranges.{RepeaterInRange}
@@ -36,22 +36,22 @@ module _ (types : List Repeater) (p : Placement) where
   -- the load and the time of a tree, if there is one
   unfoldable pub hungOf : Option Tree → Hung
   hungOf none = Nothing
-  hungOf (some t) = seenAs (load types p t) (time types p t)
+  hungOf (some t) = seenAs (loadOf types p t) (time types p t)
 
   pub hung-wired : (w : Wire) (u : Option Tree) → hungOf (wired w u) ≡ wireHung (w .resistance) (w .capacitance) (hungOf u)
-  unfolding hungOf wireHung load time wireDelay
+  unfolding hungOf wireHung loadOf time wireDelay
   hung-wired w none = refl
   hung-wired w (some t) = refl
 
   pub hung-beside : (u v : Option Tree) → hungOf (beside u v) ≡ besideHung (hungOf u) (hungOf v)
-  unfolding hungOf besideHung load time
+  unfolding hungOf besideHung loadOf time
   hung-beside none v = refl
   hung-beside (some t) none = refl
   hung-beside (some t) (some s) = refl
 
-  hung-site : (k : ℕ) (t : Tree) (mark : ℕ) → mark ≡ p k → seenAs (load types p (site k t)) (time types p (site k t)) ≡ markHung types mark (seenAs (load types p t) (time types p t))
-  unfolding load time markHung repeatHung seenLoad repeaterDelay
-  hung-site k t zero e = rw (← e) (ap (seenAs (load types p t)) (⊖-zero (time types p t)))
+  hung-site : (k : ℕ) (t : Tree) (mark : ℕ) → mark ≡ p k → seenAs (loadOf types p (site k t)) (time types p (site k t)) ≡ markHung types mark (seenAs (loadOf types p t) (time types p t))
+  unfolding loadOf time markHung repeatHung seenLoad repeaterDelay
+  hung-site k t zero e = rw (← e) (ap (seenAs (loadOf types p t)) (⊖-zero (time types p t)))
   hung-site k t (suc m) e = rw (← e)
 
   hung-sited : (b : Bool) (k : ℕ) (t : Tree) → hungOf (some (sited b k t)) ≡ siteHung types b (p k) (hungOf (some t))
@@ -70,7 +70,7 @@ module _ (types : List Repeater) (p : Placement) where
   site-nothing false mark = refl
 
   pub hung-seen : (b : Bool) (kind : Kind) (k : ℕ) (u : Option Tree) → hungOf (seen b kind k u) ≡ siteHung types b (p k) (startHung kind (hungOf u))
-  unfolding hungOf load time
+  unfolding hungOf loadOf time
   hung-seen b Driver k none = sym (site-nothing b (p k))
   hung-seen b Driver k (some t) = hung-sited b k t
   hung-seen b Point k none = sym (site-nothing b (p k))

@@ -3,7 +3,7 @@
 use mathlib.Core.Path.{_≡_, refl, sym, ap, _∙_}
 use mathlib.Core.Bool.{Bool, true, false, false≢true}
 use mathlib.Core.List.{List}
-use mathlib.Core.Option.{none, some}
+use mathlib.Core.Option.{none, some, orElse}
 use Prim.Native.Nat.{ℕ, suc, _+_, _-_, _≤_, _<_}
 use native.Mathlib.Omega.{arith}
 use lib.Dec.{ltb}
@@ -15,7 +15,7 @@ use Rattle.rules.specs.declared.Checking.the-variants.{Accepted, Refused}
 use Rattle.rules.specs.declared.Refusal.{Refusal}
 use Rattle.rules.specs.declared.Refusal.the-variants.{Mark}
 use Rattle.rules.specs.declared.Row.{Row}
-use Rattle.rules.specs.Lists.{orElse, when}
+use Rattle.rules.specs.Lists.{givenWhen}
 use Rattle.rules.specs.Quantities.{typesRoom, sitesRoom, placementRoom}
 use Rattle.rules.specs.Entries.{Entry, siteCount, typesOf, rowsOf, sitesOf}
 use Rattle.rules.specs.Refusals.{lineOfRow}
@@ -39,9 +39,11 @@ module _ (es : List Entry) (p : Placement) where
 
   -- a mark that is refused stops it, any other lets it go on; past the last mark nothing is refused
   pub marks-stop : (j : ℕ) {r : Refusal} → j < sitesRoom → markRefusal es p j ≡ some r → marksFrom es p j (sitesRoom - j) ≡ some r
+  unfolding orElse
   marks-stop j h e = marks-step j h ∙ rw e
 
   pub marks-pass : (j : ℕ) → j < sitesRoom → markRefusal es p j ≡ none → marksFrom es p j (sitesRoom - j) ≡ marksFrom es p (j + 1) (sitesRoom - (j + 1))
+  unfolding orElse
   marks-pass j h e = marks-step j h ∙ rw e
 
   pub marks-end : (j : ℕ) → sitesRoom ≤ j → marksFrom es p j (sitesRoom - j) ≡ none
@@ -49,12 +51,12 @@ module _ (es : List Entry) (p : Placement) where
   marks-end j h = let z : sitesRoom - j ≡ 0 = omega arith in rw z
 
   -- past the last site
-  pub mark-past : (j : ℕ) → sitesOf (rowsOf es) ≤ j → markRefusal es p j ≡ when (ltb 0 (p j)) (Mark 0)
+  pub mark-past : (j : ℕ) → sitesOf (rowsOf es) ≤ j → markRefusal es p j ≡ givenWhen (ltb 0 (p j)) (Mark 0)
   unfolding markRefusal
   mark-past j h = rw (le-ltb j (sitesOf (rowsOf es)) h)
 
   -- at the site of a row
-  pub mark-at : (i j : ℕ) → i < length (rowsOf es) → getD (rowsOf es) i noRow .site ≡ true → j ≡ sitesBefore (rowsOf es) i → markRefusal es p j ≡ when (ltb (length (typesOf es)) (p j)) (Mark (length (typesOf es) + i + 1))
+  pub mark-at : (i j : ℕ) → i < length (rowsOf es) → getD (rowsOf es) i noRow .site ≡ true → j ≡ sitesBefore (rowsOf es) i → markRefusal es p j ≡ givenWhen (ltb (length (typesOf es)) (p j)) (Mark (length (typesOf es) + i + 1))
   unfolding markRefusal lineOfRow
   mark-at i j h s e = rw (lt-ltb j (sitesOf (rowsOf es)) (rw e (site-number (rowsOf es) i h s))) (rw e (rw (site-row (rowsOf es) i h s)))
 
@@ -129,7 +131,7 @@ module _ {rows : List ℕ} {due : List ℤ} {types n : ℕ} {words : List ℕ} (
     pub site-inside : x .site ≡ true → k < sitesRoom
     site-inside s = omega (arith, P .sites, M .sites-few, site-number net i (rw rows-length h) (rw here s))
 
-    at-row : (es : List Entry) → NetOf rows due types n es → x .site ≡ true → markRefusal es (marks words) k ≡ when (ltb types (marks words k)) (Mark (types + i + 1))
+    at-row : (es : List Entry) → NetOf rows due types n es → x .site ≡ true → markRefusal es (marks words) k ≡ givenWhen (ltb types (marks words k)) (Mark (types + i + 1))
     at-row es N s = rw (N .types-are) at (mark-at es (marks words) i k (rw (N .rows-are, rows-length) h) (rw (N .rows-are, here) s) (P .sites ∙ rw (N .rows-are)))
 
     -- a mark above the net's types stops it, with the row's line

@@ -16,19 +16,20 @@ use Rattle.rules.specs.Entries.{sitesOf}
 use Rattle.rules.specs.Placements.{marks}
 use Rattle.rules.specs.Tables.{typeWords}
 use Rattle.rules.specs.Net.{wireOf, wired}
+use Rattle.rooms.specs.Links.{nextAt, sitesAt}
 use Rattle.laws.specs.Integers.{mag-between}
 use Rattle.laws.specs.Ranges.{RepeaterInRange}
 use Rattle.laws.specs.Taken.{RowIn, KindIn}
 use Rattle.laws.specs.Tabled.{rowAt, rowsFrom, rows-length, repeaterAt}
 use Rattle.laws.specs.Walk.{noRow, sitesBefore, under, under-end, under-taken, seenAt, Child, child-is}
-use Rattle.rows.specs.Links.{Links, Earlier, Standing, nextAt, sitesAt, row-is}
+use Rattle.rows.specs.Links.{Links, Earlier, Standing, row-is}
 use Rattle.upward.specs.declared.Hung.{Hung}
 use Rattle.upward.specs.declared.Hung.the-variants.{Nothing}
 use Rattle.slack.specs.Sites.{site-number}
 use Rattle.upward.specs.Hung.{Within, wireHung, besideHung, startHung}
 use Rattle.slack.specs.Hung.{siteHung, hungOf, hung-wired, hung-beside, hung-seen, tableTypes, Siting}
 
--- what hangs under the parent of row c among the rows from c on, and what is at row i
+-- what hangs under the parent of row c among the rows from c on, what is at row i, and row i behind its wire
 unfoldable pub hungBelow : (rows : List ℕ) (due : List ℤ) (types words : List ℕ) (n c : ℕ) → Hung
 hungBelow rows due types words n c =
     let net = rowsFrom rows due 0 n in
@@ -36,6 +37,11 @@ hungBelow rows due types words n c =
 
 unfoldable pub hungAt : (rows : List ℕ) (due : List ℤ) (types words : List ℕ) (n i : ℕ) → Hung
 hungAt rows due types words n i = hungOf (tableTypes types) (marks words) (seenAt (rowsFrom rows due 0 n) i)
+
+unfoldable pub hungOwn : (rows : List ℕ) (due : List ℤ) (types words : List ℕ) (n i : ℕ) → Hung
+hungOwn rows due types words n i =
+    let net = rowsFrom rows due 0 n in
+    hungOf (tableTypes types) (marks words) (wired (wireOf (getD net i noRow)) (seenAt net i))
 
 -- tables and a placement that are not refused: each mark is a type's in its ranges, and so is all that hangs anywhere
 pub record Sound (rows : List ℕ) (due : List ℤ) (types words : List ℕ) (n : ℕ) : Type 0 where
@@ -49,7 +55,7 @@ pub record Sound (rows : List ℕ) (due : List ℤ) (types words : List ℕ) (n 
   pub row-in : (i : ℕ) → i < n → RowIn (getD (rowsFrom rows due 0 n) i noRow)
   pub under-in : (r i : ℕ) → r < i → Within (hungOf (tableTypes types) (marks words) (under (rowsFrom rows due 0 n) r i))
   pub seen-in : (i : ℕ) → i < n → Within (hungAt rows due types words n i)
-  pub own-in : (i : ℕ) → 1 ≤ i → i < n → Within (hungOf (tableTypes types) (marks words) (wired (wireOf (getD (rowsFrom rows due 0 n) i noRow)) (seenAt (rowsFrom rows due 0 n) i)))
+  pub own-in : (i : ℕ) → 1 ≤ i → i < n → Within (hungOwn rows due types words n i)
 
 -- with the table of links that the walk goes by
 pub record Ready (rows : List ℕ) (due : List ℤ) (types words links : List ℕ) (n : ℕ) : Type 0 where
@@ -104,30 +110,31 @@ module _ {rows : List ℕ} {due : List ℤ} {types words links : List ℕ} {n : 
     row : getD net c noRow ≡ x
     row = row-is rows due n c x inside x-is
 
-    own-is : {h : Hung} → h ≡ hungAt rows due types words n c → wireHung (x .resistance .0) (x .capacitance .0) h ≡ hungOf (tableTypes types) (marks words) (wired (wireOf (getD net c noRow)) (seenAt net c))
-    unfolding hungAt wireOf
-    own-is e = rw (e, ← row) (sym (hung-wired (tableTypes types) (marks words) (wireOf (getD net c noRow)) (seenAt net c)))
+    -- row c behind its wire
+    pub own-is : {h own : Hung} → h ≡ hungAt rows due types words n c → own ≡ wireHung (x .resistance .0) (x .capacitance .0) h → own ≡ hungOwn rows due types words n c
+    unfolding hungAt hungOwn wireOf
+    own-is e f = f ∙ rw (e, ← row) (sym (hung-wired (tableTypes types) (marks words) (wireOf (getD net c noRow)) (seenAt net c)))
 
     -- what the wire of row c needs
     pub wire-needs : {h : Hung} → h ≡ hungAt rows due types words n c → (x .resistance .0 ≤ mostOhms) × (Within h × Within (wireHung (x .resistance .0) (x .capacitance .0) h))
-    wire-needs e = (rw row at (R .sound .row-in c inside .resistance), (rw e (R .sound .seen-in c inside), rw (own-is e) (R .sound .own-in c some inside)))
+    wire-needs e = (rw row at (R .sound .row-in c inside .resistance), (rw e (R .sound .seen-in c inside), rw (own-is e refl) (R .sound .own-in c some inside)))
 
-    module _ {h own later : Hung} {next : ℕ} (h-is : h ≡ hungAt rows due types words n c) (own-by : own ≡ wireHung (x .resistance .0) (x .capacitance .0) h) (next-is : next ≡ getD links (nextAt + c) 0) (later-is : later ≡ hungBelow rows due types words n next) where
-      -- row c behind its wire, beside those after it
-      pub below-step : {all : Hung} → all ≡ besideHung own later → all ≡ hungBelow rows due types words n c
-      unfolding hungBelow
-      below-step e =
-          let t = under-taken net (getD net c noRow .parent) c (rw long inside) refl in
-          e ∙ ap₂ besideHung (own-by ∙ own-is h-is) (later-is ∙ below-is (getD net c noRow .parent) (c + 1) next (next-child c some inside next-is))
-          ∙ sym (hung-beside (tableTypes types) (marks words) (wired (wireOf (getD net c noRow)) (seenAt net c)) (under net (getD net c noRow .parent) (c + 1)))
-          ∙ ap (hungOf (tableTypes types) (marks words)) (sym t)
+  module _ (c : ℕ) {own later : Hung} {next : ℕ} (some : 1 ≤ c) (inside : c < n) (own-by : own ≡ hungOwn rows due types words n c) (next-is : next ≡ getD links (nextAt + c) 0) (later-is : later ≡ hungBelow rows due types words n next) where
+    -- row c behind its wire, beside those after it
+    pub below-step : {all : Hung} → all ≡ besideHung own later → all ≡ hungBelow rows due types words n c
+    unfolding hungBelow hungOwn
+    below-step e =
+        let t = under-taken net (getD net c noRow .parent) c (rw long inside) refl in
+        e ∙ ap₂ besideHung own-by (later-is ∙ below-is (getD net c noRow .parent) (c + 1) next (next-child c some inside next-is))
+        ∙ sym (hung-beside (tableTypes types) (marks words) (wired (wireOf (getD net c noRow)) (seenAt net c)) (under net (getD net c noRow .parent) (c + 1)))
+        ∙ ap (hungOf (tableTypes types) (marks words)) (sym t)
 
-      -- which is in its ranges
-      pub beside-needs : Within (besideHung own later)
-      unfolding hungBelow
-      beside-needs = rw (below-step refl) (R .sound .under-in (getD net c noRow .parent) c (R .sound .earlier c some (rw long inside)))
+    -- which is in its ranges
+    pub beside-needs : Within (besideHung own later)
+    unfolding hungBelow
+    beside-needs = rw (below-step refl) (R .sound .under-in (getD net c noRow .parent) c (R .sound .earlier c some (rw long inside)))
 
-  module _ (i : ℕ) {x : Row} {first : ℕ} {below : Hung} {k : ℕ} (inside : i < n) (x-is : x ≡ rowAt rows due i) (first-is : first ≡ getD links i 0) (below-by : below ≡ hungBelow rows due types words n first) (k-is : k ≡ getD links (sitesAt + i) 0) where
+  module _ (i : ℕ) {x : Row} {below : Hung} {k : ℕ} (inside : i < n) (x-is : x ≡ rowAt rows due i) (below-by : below ≡ hungBelow rows due types words n (getD links i 0)) (k-is : k ≡ getD links (sitesAt + i) 0) where
     there : getD net i noRow ≡ x
     there = row-is rows due n i x inside x-is
 
@@ -135,7 +142,7 @@ module _ {rows : List ℕ} {due : List ℤ} {types words links : List ℕ} {n : 
     number = k-is ∙ R .linked .sites i (rw long inside)
 
     hanging : below ≡ hungOf (tableTypes types) (marks words) (under net i (i + 1))
-    hanging = below-by ∙ below-is i (i + 1) first (first-child i inside first-is)
+    hanging = below-by ∙ below-is i (i + 1) (getD links i 0) (first-child i inside refl)
 
     -- what the site of row i needs
     pub site-needs : {driven : Hung} → driven ≡ startHung (x .kind) below → x .site ≡ true → Siting types words k driven

@@ -12,7 +12,7 @@ use Rattle.rules.specs.Entries.{Repeater}
 use Rattle.rules.specs.Placements.{Placement, marks}
 use Rattle.rules.specs.Tables.{typeWords}
 use Rattle.rules.specs.Net.{Tree, sink, site, wire, both, wireOf, wired}
-use Rattle.rules.specs.Slack.{typeOf, seenLoad, repeaterDelay, wireDelay, load}
+use Rattle.rules.specs.Slack.{typeOf, seenLoad, repeaterDelay, wireDelay, loadOf}
 use Rattle.laws.specs.Integers.{mag-between, minℤ}
 use Rattle.laws.specs.Trees.{time}
 use Rattle.laws.specs.Accepted.{Accepted}
@@ -21,9 +21,10 @@ use Rattle.laws.specs.Within.{Within as WithinTree, within-under, within-row, w
 use Rattle.laws.specs.Tabled.{rowsFrom, rows-length, repeatersFrom, repeaters-length}
 use Rattle.laws.specs.Walk.{noRow, sitesBefore, sitesBefore-step, under, seenAt, atRow-seen}
 use Rattle.rows.specs.Links.{Standing}
+use Rattle.units.specs.Times.{farTime}
 use Rattle.upward.specs.Hung.{Within, seenAs}
 use Rattle.slack.specs.Hung.{hungOf, tableTypes, type-is}
-use Rattle.slack.specs.Ready.{Sound, hungAt}
+use Rattle.slack.specs.Ready.{Sound, hungAt, hungOwn}
 
 -- ---- types past those that are counted are not looked at
 module _ (words : List ℕ) (count : ℕ) (few : count ≤ typesRoom) (p : Placement) (known : (j : ℕ) → p j ≤ count) where
@@ -40,8 +41,8 @@ module _ (words : List ℕ) (count : ℕ) (few : count ≤ typesRoom) (p : Place
   delay-same zero d h = refl
   delay-same (suc m) d h = ap (λ x. x .own + x .resistance * d) (type-same m h)
 
-  load-same : (t : Tree) → load (tableTypes words) p t ≡ load (repeatersFrom words 0 count) p t
-  unfolding load
+  load-same : (t : Tree) → loadOf (tableTypes words) p t ≡ loadOf (repeatersFrom words 0 count) p t
+  unfolding loadOf
   load-same (sink pin due) = refl
   load-same (site j t) = load-same-at (p j) _ (known j) ∙ ap (seenLoad (repeatersFrom words 0 count) (p j)) (load-same t)
   load-same (wire w t) = ap (λ l. w .capacitance + l) (load-same t)
@@ -64,7 +65,7 @@ hung-in : {types : List Repeater} {rows : List Row} → Accepted types rows → 
 unfolding hungOf
 hung-in ok p known none w = tt
 hung-in {types} ok p known (some t) w =
-    (load-within ok p known t w, omega (arith, mag-between (time types p t) 2_999_999_999_999_999 1_000_000_000_000 {h = 3_000_000_000_000_000} (time-from ok p known t w) (time-to ok p known t w) (omega arith) (omega arith)))
+    (load-within ok p known t w, omega (arith, mag-between (time types p t) 2_999_999_999_999_999 1_000_000_000_000 {h = farTime} (time-from ok p known t w) (time-to ok p known t w) (omega arith) (omega arith)))
 
 module _ (rows : List ℕ) (due : List ℤ) (types words : List ℕ) (count n : ℕ) (standing : Standing rows due n) (types-long : typeWords * typesRoom ≤ length types) (words-long : placementRoom ≤ length words) (few : count ≤ typesRoom) (ok : Accepted (repeatersFrom types 0 count) (rowsFrom rows due 0 n)) (known : (j : ℕ) → marks words j ≤ count) where
   abbrev net : List Row
@@ -82,7 +83,7 @@ module _ (rows : List ℕ) (due : List ℤ) (types words : List ℕ) (count n : 
   own-within i h g = rw (sitesBefore-step net i g) (within-row ok noRow i (sitesBefore net i) h g)
 
   pub sound : Sound rows due types words n
-  unfolding hungAt
+  unfolding hungAt hungOwn
   sound = record {
     standing = standing;
     types-long = types-long;

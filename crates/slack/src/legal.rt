@@ -41,7 +41,7 @@ fn check_past(words: &[u64], from: usize) -> Checking
     Checking::Accepted
 }
 
-// The line of a row is behind those of the types and of the rows before it.
+// The line of a row is after those of the types and of the rows before it.
 fn line_of(count: usize, row: usize) -> u32
     requires { ⌜ (count ≤ typesRoom) × (row < rowsRoom) ⌝ }
     ensures { λ r. ⌜ r ≡ count + row + 1 ⌝ }

@@ -1,13 +1,14 @@
 // The slack of a given placement: what is refused first, then loads and times from the sinks up, by recursion over the tree.
 use rooms::PLACEMENT_ROOM;
+use rooms::links::LINKS_ROOM;
 use rules::Checking;
 use rules::Slacking;
 ghost use mathlib.Core.Path.{_≡_};
-ghost use Rattle.rules.specs.Promises.{SlackPromise};
+ghost use Rattle.rules.specs.Promises.{SlackPromise, tabled};
+ghost use Rattle.rules.specs.Tables.{tablesOf, countsOf};
 ghost use Rattle.laws.specs.Tabled.{rowAt};
 ghost use Rattle.upward.specs.Hung.{slackHung};
 ghost use Rattle.slack.specs.Ready.{Sound, hungAt};
-ghost use Rattle.net.specs.TableSteps.{tablesOf, countsOf};
 ghost use Rattle.slack.specs.Given.{Given};
 
 mod legal;
@@ -19,9 +20,9 @@ fn timing(types: &[u32], rows: &[u32], due: &[i64], n: usize, words: &[u64]) -> 
     requires { ⌜ Sound (now rows) (now due) (now types) (now words) n ⌝ }
     ensures { λ r. ⌜ r ≡ slackHung (rowAt (now (rows .entry)) (now (due .entry)) 0 .resistance .0) (hungAt (now (rows .entry)) (now (due .entry)) (now (types .entry)) (now (words .entry)) n 0) ⌝ }
 {
-    let mut links = [0u16; 768];
+    let mut links = [0u16; LINKS_ROOM];
     rows::link(rows, due, n, &mut links);
-    let h = tree::seen(rows, due, types, words, &links, n, 0);
+    let h = tree::at_driver(rows, due, types, words, &links, n);
     let driver = rows::row_at(rows, due, 0);
     upward::slack_at(h, driver.resistance)
 }
@@ -36,7 +37,7 @@ fn slack_of_accepted(
     words: &[u64],
 ) -> Slacking
     requires { ⌜ Given (now types) (now rows) (now due) count n (now words) ⌝ }
-    ensures { λ r. ⌜ SlackPromise (tablesOf (now (types .entry)) (now (rows .entry)) (now (due .entry))) (countsOf count n) (now (words .entry)) r ⌝ }
+    ensures { λ r. ⌜ SlackPromise (tabled (tablesOf (now (types .entry)) (now (rows .entry)) (now (due .entry))) (countsOf count n)) (now (words .entry)) r ⌝ }
 {
     match legal::check_marks(rows, due, count, n, words) {
         Checking::Refused(r) => Slacking::Refused(r),
@@ -53,7 +54,7 @@ pub fn slack_of(
     row_count: usize,
     placement: &[u64],
 ) -> Slacking
-    ensures { λ r. ⌜ SlackPromise (tablesOf (now (types .entry)) (now (rows .entry)) (now (due .entry))) (countsOf «type_count» «row_count») (now (placement .entry)) r ⌝ }
+    ensures { λ r. ⌜ SlackPromise (tabled (tablesOf (now (types .entry)) (now (rows .entry)) (now (due .entry))) (countsOf «type_count» «row_count»)) (now (placement .entry)) r ⌝ }
 {
     let short = placement.len() < PLACEMENT_ROOM;
     match net::check_tables(short, types, rows, due, type_count, row_count) {

@@ -14,7 +14,7 @@ fn marked(types: &[u32], words: &[u64], k: usize, h: Hung) -> Hung
     if mark == 0 {
         return h;
     }
-    let b = rows::type_at(types, mark - 1);
+    let b = repeaters::type_at(types, mark - 1);
     upward::repeated(h, b)
 }
 

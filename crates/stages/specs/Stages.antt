@@ -6,14 +6,17 @@ use Prim.Native.Nat.{ℕ, _+_, _-_, _*_, _≤_, _<_}
 use lib.Dec.{ltb}
 use lib.IntN.{pos}
 use lib.ListN.{length, getD, set}
+use Rattle.rules.specs.Tables.{typeWords}
+use Rattle.rules.specs.Quantities.{typesRoom, sitesRoom, workRoom}
+use Rattle.repeaters.specs.Repeaters.{bufferAt}
 use Rattle.rules.specs.Placements.{marks}
-use Rattle.laws.specs.Joining.{set as mark}
+use Rattle.laws.specs.Joining.{withMark}
 use Rattle.columns.specs.Run.{candidate}
 use Rattle.rules.specs.declared.Cand.{Cand}
+use Rattle.rules.specs.Areas.{zeros}
 use Rattle.turns.specs.declared.Step.{Step}
 use Rattle.turns.specs.declared.Step.the-variants.{Put, Move, FirstWire, FirstChoice, Insert, Branch}
 use Rattle.turns.specs.declared.Pass.{Pass}
-use Rattle.rules.specs.Promises.{zeros}
 use Rattle.values.specs.Records.{candOf}
 use Rattle.turns.specs.Turns.{passOf}
 use Rattle.stages.specs.declared.Job.{Job}
@@ -34,7 +37,7 @@ abbrev pub pinPass : Job → Pass
 pinPass j = passAt Put (cond (j .sink) 1 0) (ownAt j) (ownAt j) (ownAt j) (j .pin)
 
 abbrev pub choicePass : List ℕ → Job → ℕ → Pass
-choicePass types j t = passAt (FirstChoice (getD types (3 * t + 2) 0) (record { 0 = getD types (3 * t + 1) 0 })) (j .own) (ownAt j) (ownAt j) (ownAt j) zeros
+choicePass types j t = passAt (FirstChoice (bufferAt types t .own) (bufferAt types t .resistance)) (j .own) (ownAt j) (ownAt j) (ownAt j) zeros
 
 abbrev pub insertPass : Job → ℕ → Pass
 insertPass j t = passAt Insert (j .own + 1) (ownAt j) (ownAt j) (ownAt j) (getD (j .best) t unset)
@@ -63,7 +66,7 @@ onTo j own made best = record { step = j .step + 1; steps = j .steps; low = j .l
 
 -- the best behind type t, with its mark
 abbrev pub Chosen : List ℕ → Job → Pass → ℕ → Job → Type 0
-Chosen types j e t r = (c : Cand) × (candOf c ≡ candidate (getD types (3 * t) 0) (e .worth .0) (mark (j .site) (t + 1) (marks (e .held .words)))) × (r ≡ onTo j (j .own) (j .made) (set (j .best) t c))
+Chosen types j e t r = (c : Cand) × (candOf c ≡ candidate (bufferAt types t .input .0) (e .worth .0) (withMark (j .site) (t + 1) (marks (e .held .words)))) × (r ≡ onTo j (j .own) (j .made) (set (j .best) t c))
 
 unfoldable pub Ended : List ℕ → Job → Pass → Job → Type 0
 Ended types j e r =
@@ -83,11 +86,11 @@ own-kept n e = rw e
 pub record Inside (types : List ℕ) (j : Job) : Type 0 where
   pub going : j .step < j .steps
   pub few : j .steps ≤ j .count + j .count + 4
-  pub types-few : j .count ≤ 4
-  pub types-long : 12 ≤ length types
-  pub number : 0 < j .count → j .site < 64
-  pub room : j .low + j .later + j .own ≤ 768
+  pub types-few : j .count ≤ typesRoom
+  pub types-long : typeWords * typesRoom ≤ length types
+  pub number : 0 < j .count → j .site < sitesRoom
+  pub room : j .low + j .later + j .own ≤ workRoom
 
 pub record Ends (j : Job) (e : Pass) : Type 0 where
   pub kept : j .count < j .step → j .step < j .count + j .count + 2 → ownAt j ≤ e .to
-  pub behind : j .count + j .count + 1 < j .step → j .step < j .count + j .count + 3 → ownAt j + j .own ≤ e .to
+  pub past : j .count + j .count + 1 < j .step → j .step < j .count + j .count + 3 → ownAt j + j .own ≤ e .to

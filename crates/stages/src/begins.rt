@@ -1,14 +1,14 @@
 // What each pass begins with.
 use crate::Job;
-use rooms::TYPE_WORDS;
 use rules::Cand;
 use rules::Femtosecond;
-use rules::Ohm;
 use turns::Pass;
 use turns::Step;
 ghost use mathlib.Core.Path.{_≡_};
-ghost use Prim.Native.Nat.{_+_, _≤_, _<_};
+ghost use Prim.Native.Nat.{_+_, _≤_, _<_, _*_};
 ghost use lib.ListN.{length};
+ghost use Rattle.rules.specs.Tables.{typeWords};
+ghost use Rattle.rules.specs.Quantities.{typesRoom, workRoom};
 ghost use Rattle.stages.specs.Stages.{Inside, pinPass, choicePass, insertPass, wirePass, branchPass, movePass, passAt, beginOf};
 
 fn pass_at(step: Step, left: usize, from: usize, with: usize, to: usize, held: Cand) -> Pass
@@ -18,7 +18,7 @@ fn pass_at(step: Step, left: usize, from: usize, with: usize, to: usize, held: C
 }
 
 fn pin_pass(j: Job) -> Pass
-    requires { ⌜ j .low + j .later + j .own ≤ 768 ⌝ }
+    requires { ⌜ j .low + j .later + j .own ≤ workRoom ⌝ }
     ensures { λ p. ⌜ p ≡ pinPass j ⌝ }
 {
     let at = j.low + j.later;
@@ -30,19 +30,20 @@ fn pin_pass(j: Job) -> Pass
 }
 
 fn choice_pass(types: &[u32], j: Job, t: usize) -> Pass
-    requires { ⌜ (j .low + j .later + j .own ≤ 768) × ((t < 4) × (12 ≤ length (now types))) ⌝ }
+    requires { ⌜ (j .low + j .later + j .own ≤ workRoom) × ((t < typesRoom) × (typeWords * typesRoom ≤ length (now types))) ⌝ }
     ensures { λ p. ⌜ p ≡ choicePass (now (types .entry)) j t ⌝ }
 {
     let at = j.low + j.later;
     let n = j.own;
-    let ohms = types[TYPE_WORDS * t + 1];
-    let own = types[TYPE_WORDS * t + 2];
+    let b = repeaters::type_at(types, t);
+    let own = b.own;
+    let r = b.resistance;
     let held = values::blank();
-    pass_at(Step::FirstChoice(own, Ohm(ohms)), n, at, at, at, held)
+    pass_at(Step::FirstChoice(own, r), n, at, at, at, held)
 }
 
 fn insert_pass(j: Job, t: usize) -> Pass
-    requires { ⌜ (j .low + j .later + j .own ≤ 768) × (t < 4) ⌝ }
+    requires { ⌜ (j .low + j .later + j .own ≤ workRoom) × (t < typesRoom) ⌝ }
     ensures { λ p. ⌜ p ≡ insertPass j t ⌝ }
 {
     let at = j.low + j.later;
@@ -53,7 +54,7 @@ fn insert_pass(j: Job, t: usize) -> Pass
 }
 
 fn wire_pass(j: Job) -> Pass
-    requires { ⌜ j .low + j .later + j .own ≤ 768 ⌝ }
+    requires { ⌜ j .low + j .later + j .own ≤ workRoom ⌝ }
     ensures { λ p. ⌜ p ≡ wirePass j ⌝ }
 {
     let at = j.low + j.later;
@@ -65,7 +66,7 @@ fn wire_pass(j: Job) -> Pass
 }
 
 fn branch_pass(j: Job) -> Pass
-    requires { ⌜ j .low + j .later + j .own ≤ 768 ⌝ }
+    requires { ⌜ j .low + j .later + j .own ≤ workRoom ⌝ }
     ensures { λ p. ⌜ p ≡ branchPass j ⌝ }
 {
     let low = j.low;
@@ -77,7 +78,7 @@ fn branch_pass(j: Job) -> Pass
 }
 
 fn move_pass(j: Job) -> Pass
-    requires { ⌜ j .low + j .later + j .own ≤ 768 ⌝ }
+    requires { ⌜ j .low + j .later + j .own ≤ workRoom ⌝ }
     ensures { λ p. ⌜ p ≡ movePass j ⌝ }
 {
     let low = j.low;

@@ -1,16 +1,17 @@
 // What a pass has made of a job.
 use crate::Job;
-use rooms::TYPE_WORDS;
+use rooms::TYPES_ROOM;
 use rules::Cand;
-use rules::Femtofarad;
 use turns::Pass;
 ghost use mathlib.Core.Path.{_≡_};
-ghost use Prim.Native.Nat.{_≤_, _<_};
+ghost use Prim.Native.Nat.{_≤_, _<_, _*_};
 ghost use lib.ListN.{length};
+ghost use Rattle.rules.specs.Tables.{typeWords};
+ghost use Rattle.rules.specs.Quantities.{typesRoom, sitesRoom, workRoom};
 ghost use Rattle.stages.specs.Stages.{onTo, Inside, Ends, Ended, Chosen};
 
-fn on_to(j: Job, own: usize, made: usize, best: [Cand; 4]) -> Job
-    requires { ⌜ j .step < 768 ⌝ }
+fn on_to(j: Job, own: usize, made: usize, best: [Cand; TYPES_ROOM]) -> Job
+    requires { ⌜ j .step < workRoom ⌝ }
     ensures { λ r. ⌜ r ≡ onTo j own made best ⌝ }
 {
     let pin = j.pin;
@@ -34,14 +35,15 @@ fn on_to(j: Job, own: usize, made: usize, best: [Cand; 4]) -> Job
 }
 
 fn chosen(types: &[u32], j: Job, e: Pass, t: usize) -> Job
-    requires { ⌜ (j .step < 768) × ((j .site < 64) × ((t < 4) × (12 ≤ length (now types)))) ⌝ }
+    requires { ⌜ (j .step < workRoom) × ((j .site < sitesRoom) × ((t < typesRoom) × (typeWords * typesRoom ≤ length (now types)))) ⌝ }
     ensures { λ r. ⌜ Chosen (now (types .entry)) j e t r ⌝ }
 {
-    let input = types[TYPE_WORDS * t];
+    let b = repeaters::type_at(types, t);
+    let input = b.input;
     let m = t as u64;
     let held = e.held;
     let worth = e.worth;
-    let c = values::typed(held, Femtofarad(input), worth, j.site, m + 1);
+    let c = values::typed(held, input, worth, j.site, m + 1);
     let mut best = j.best;
     best[t] = c;
     on_to(j, j.own, j.made, best)

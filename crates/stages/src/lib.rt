@@ -1,4 +1,5 @@
 // What is done with a row's own list, by value: the job, what each of its passes begins with, and what a pass has made of it.
+use rooms::TYPES_ROOM;
 use rules::Cand;
 use rules::Femtofarad;
 use rules::Ohm;
@@ -6,7 +7,7 @@ use rules::Ohm;
 pub mod begins;
 pub mod ends;
 
-// The row's list stands `later` places behind `low`, where the list of the later rows beside it waits.
+// The row's list stands `later` places past `low`, where the list of the later rows beside it waits.
 pub struct Job {
     pub step: usize,
     pub steps: usize,
@@ -20,5 +21,5 @@ pub struct Job {
     pub pin: Cand,
     pub resistance: Ohm,
     pub capacitance: Femtofarad,
-    pub best: [Cand; 4],
+    pub best: [Cand; TYPES_ROOM],
 }

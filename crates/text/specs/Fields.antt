@@ -1,4 +1,4 @@
--- The fields of a line by place: those from a place on, the first of them, and what a reader of a line learns from it. Behind the
+-- The fields of a line by place: those from a place on, the first of them, and what a reader of a line learns from it. After the
 -- line there is no field, which reads as malformed, as an empty one does. Assumes nothing.
 use mathlib.Core.Path.{_≡_, sym, ap, _∙_}
 use mathlib.Core.Bool.{cond}
@@ -11,10 +11,10 @@ use lib.ListN.{length, take, drop, length-drop}
 use lib.Seq.{drop-drop, take-length}
 use borrow.Author.Tests.{le-leb, lt-leb, leb-true, leb-false}
 use Rattle.rules.specs.Entries.{Entry, malformed}
-use Rattle.rules.specs.Text.{parted, number, signed, after, end, _>>=_}
+use Rattle.rules.specs.Text.{parted, number, signed, after, end, nextField}
 use Rattle.text.specs.declared.Field.{Field}
 use Rattle.text.specs.declared.SignedField.{SignedField}
-use Rattle.text.specs.Stretches.{tab, lead, stretch, lead-le, either, parted-last, parted-more, length-stretch, stretch-behind}
+use Rattle.text.specs.Stretches.{tab, lead, stretch, lead-le, either, parted-last, parted-more, length-stretch, stretch-past}
 use Rattle.text.specs.Numbers.{fieldOf, timeOf, Within, WithinTime, within-number, within-time}
 
 -- the field that starts at a place, and where the next one would
@@ -72,18 +72,18 @@ fields-some line at h =
     (λ e. rw e (fields-last line at h (leb-false (nextAt line at) (length line) e))))
 
 field-missing : {A : Type 0} (read : List ℕ → Option A) (next : A → List (List ℕ) → Entry) (line : List ℕ) (at : ℕ) → length line < at → read [] ≡ none
-    → _>>=_ read next (fieldsFrom line at) ≡ after (read (fieldAt line at)) next (fieldsFrom line (nextAt line at))
-field-missing read next line at h e = rw (fields-none line at h, ← stretch-behind tab line at (omega arith), e)
+    → nextField read next (fieldsFrom line at) ≡ after (read (fieldAt line at)) next (fieldsFrom line (nextAt line at))
+field-missing read next line at h e = rw (fields-none line at h, ← stretch-past tab line at (omega arith), e)
 
 -- a reader of a field that takes no empty one: the field at the place, or malformed where there is none
 pub field-read : {A : Type 0} (read : List ℕ → Option A) (next : A → List (List ℕ) → Entry) (line : List ℕ) (at : ℕ) → read [] ≡ none
-    → _>>=_ read next (fieldsFrom line at) ≡ after (read (fieldAt line at)) next (fieldsFrom line (nextAt line at))
+    → nextField read next (fieldsFrom line at) ≡ after (read (fieldAt line at)) next (fieldsFrom line (nextAt line at))
 field-read read next line at e =
     either (leb at (length line))
     (λ t. rw (fields-some line at (leb-true at (length line) t)))
     (λ f. field-missing read next line at (leb-false at (length line) f) e)
 
--- no field is left just behind the last
+-- no field is left just past the last
 pub fields-end : (e : Entry) (line : List ℕ) (at : ℕ) → length line < at → end e (fieldsFrom line at) ≡ e
 fields-end e line at h = rw (fields-none line at h)
 

@@ -15,7 +15,7 @@ use mir.Facts.{toZ-pos, toZ-ofZ}
 use lib.ListN.{length, getD, take, drop, length-drop, drop-of-length-le}
 use lib.Seq.{drop-cons, take-all}
 use borrow.Author.Tests.{le-leb, lt-leb, leb-true, leb-false, ne-eqb}
-use Rattle.rules.specs.Text.{isDigit, digit, digits, number, positive, negative, signed}
+use Rattle.rules.specs.Text.{isDigit, digit, moreDigits, number, positive, negative, signed}
 use Rattle.text.specs.declared.Field.{Field}
 use Rattle.text.specs.declared.Field.the-variants.{Number, Bad}
 use Rattle.text.specs.declared.SignedField.{SignedField}
@@ -72,27 +72,27 @@ small-field none next = tt
 small-field (some n) next = omega arith
 
 -- a number past the cap reads as the cap, whatever digits follow
-pub digits-capped : (m n next : ℕ) (s : List ℕ) → min m cap ≡ min n cap → fieldOf (digits m s) next ≡ fieldOf (digits n s) next
-unfolding digits
+pub digits-capped : (m n next : ℕ) (s : List ℕ) → min m cap ≡ min n cap → fieldOf (moreDigits m s) next ≡ fieldOf (moreDigits n s) next
+unfolding moreDigits
 digits-capped m n next [] h = ap (λ (k : ℕ). Number k next) h
 digits-capped m n next (b ∷ s) h = by (isDigit 48 b) (digits-capped (10 * m + digit b) (10 * n + digit b) next s (omega arith))
   where
-    by : (t : Bool) → fieldOf (digits (10 * m + digit b) s) next ≡ fieldOf (digits (10 * n + digit b) s) next
-        → fieldOf (cond t (digits (10 * m + digit b) s) none) next ≡ fieldOf (cond t (digits (10 * n + digit b) s) none) next
+    by : (t : Bool) → fieldOf (moreDigits (10 * m + digit b) s) next ≡ fieldOf (moreDigits (10 * n + digit b) s) next
+        → fieldOf (cond t (moreDigits (10 * m + digit b) s) none) next ≡ fieldOf (cond t (moreDigits (10 * n + digit b) s) none) next
     by true same = same
     by false same = refl
 
 -- one digit more, and a byte that is none
-pub digits-next : (n next b : ℕ) (s : List ℕ) → isDigit 48 b ≡ true → fieldOf (digits n (b ∷ s)) next ≡ fieldOf (digits (grown n b) s) next
-unfolding digits
+pub digits-next : (n next b : ℕ) (s : List ℕ) → isDigit 48 b ≡ true → fieldOf (moreDigits n (b ∷ s)) next ≡ fieldOf (moreDigits (grown n b) s) next
+unfolding moreDigits
 digits-next n next b s e = rw e (digits-capped (10 * n + digit b) (grown n b) next s (omega arith))
 
-pub digits-stop : (n next b : ℕ) (s : List ℕ) → isDigit 48 b ≡ false → fieldOf (digits n (b ∷ s)) next ≡ Bad
-unfolding digits
+pub digits-stop : (n next b : ℕ) (s : List ℕ) → isDigit 48 b ≡ false → fieldOf (moreDigits n (b ∷ s)) next ≡ Bad
+unfolding moreDigits
 digits-stop n next b s e = rw e
 
-pub digits-end : (n next : ℕ) → n ≤ cap → fieldOf (digits n []) next ≡ Number n next
-unfolding digits
+pub digits-end : (n next : ℕ) → n ≤ cap → fieldOf (moreDigits n []) next ≡ Number n next
+unfolding moreDigits
 digits-end n next h = ap (λ (k : ℕ). Number k next) (omega arith)
 
 -- what a number is by its first byte
@@ -104,12 +104,12 @@ number-empty (b ∷ s) h = absurd (omega arith)
 from-nothing : (b : ℕ) → 10 * 0 + digit b ≡ digit b
 from-nothing b = omega arith
 
-digits-first : (b : ℕ) (s : List ℕ) → digits 0 (b ∷ s) ≡ cond (isDigit 48 b) (digits (digit b) s) none
-unfolding digits
+digits-first : (b : ℕ) (s : List ℕ) → moreDigits 0 (b ∷ s) ≡ cond (isDigit 48 b) (moreDigits (digit b) s) none
+unfolding moreDigits
 digits-first b s = rw (from-nothing b)
 
-pub number-single : (s : List ℕ) → length s ≡ 1 → number s ≡ digits 0 s
-unfolding number digits
+pub number-single : (s : List ℕ) → length s ≡ 1 → number s ≡ moreDigits 0 s
+unfolding number moreDigits
 number-single [] h = absurd (omega arith)
 number-single (b ∷ []) h = rw (from-nothing b)
 number-single (b ∷ c ∷ s) h = absurd (omega arith)
@@ -126,7 +126,7 @@ first-digit b z =
     (λ e. rw (e, le-leb 48 b (omega (arith, leb-true))))
     (λ e. rw (e, lt-leb 48 b (omega (arith, leb-false))))
 
-pub number-digits : (s : List ℕ) → 1 < length s → (getD s 0 0 ≡ 48 → ⊥) → number s ≡ digits 0 s
+pub number-digits : (s : List ℕ) → 1 < length s → (getD s 0 0 ≡ 48 → ⊥) → number s ≡ moreDigits 0 s
 unfolding number
 number-digits [] h z = absurd (omega arith)
 number-digits (b ∷ []) h z = absurd (omega arith)
@@ -164,13 +164,13 @@ digit-bounds b e =
     (λ f. (omega (arith, leb-true), leb-true b 57 (rw f at e)))
     (λ f. absurd (false≢true (rw f at e)))
 
-pub digits-past : (n next : ℕ) (s : List ℕ) (i : ℕ) → i < length s → isDigit 48 (getD s i 0) ≡ true → fieldOf (digits n (drop i s)) next ≡ fieldOf (digits (grown n (getD s i 0)) (drop (i + 1) s)) next
+pub digits-past : (n next : ℕ) (s : List ℕ) (i : ℕ) → i < length s → isDigit 48 (getD s i 0) ≡ true → fieldOf (moreDigits n (drop i s)) next ≡ fieldOf (moreDigits (grown n (getD s i 0)) (drop (i + 1) s)) next
 digits-past n next s i h e = rw (drop-cons s i 0 h, add-one i) (digits-next n next (getD s i 0) (drop (suc i) s) e)
 
-pub digits-none : (n next : ℕ) (s : List ℕ) (i : ℕ) → i < length s → isDigit 48 (getD s i 0) ≡ false → fieldOf (digits n (drop i s)) next ≡ Bad
+pub digits-none : (n next : ℕ) (s : List ℕ) (i : ℕ) → i < length s → isDigit 48 (getD s i 0) ≡ false → fieldOf (moreDigits n (drop i s)) next ≡ Bad
 digits-none n next s i h e = rw (drop-cons s i 0 h) (digits-stop n next (getD s i 0) (drop (suc i) s) e)
 
-pub digits-done : (n next : ℕ) (s : List ℕ) (i : ℕ) → n ≤ cap → length s ≤ i → fieldOf (digits n (drop i s)) next ≡ Number n next
+pub digits-done : (n next : ℕ) (s : List ℕ) (i : ℕ) → n ≤ cap → length s ≤ i → fieldOf (moreDigits n (drop i s)) next ≡ Number n next
 digits-done n next s i h g = rw (drop-of-length-le s g) (digits-end n next h)
 
 -- ---- what was read, as a time

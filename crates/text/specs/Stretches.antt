@@ -70,7 +70,7 @@ parted-last by (b ∷ s) h =
     (λ e. absurd (omega (arith, lead-found by b s e)))
     (λ e. parted-passed by b s s [] e (parted-last by s (omega (arith, lead-passed by b s e))))
 
--- the first stretch, and what is behind the byte that ends it
+-- the first stretch, and what is after the byte that ends it
 pub parted-more : (by : ℕ) (s : List ℕ) → lead by s < length s → parted by s ≡ stretch by s ∷ parted by (drop (suc (lead by s)) s)
 unfolding lead
 parted-more by [] h = absurd (omega arith)
@@ -94,7 +94,7 @@ lead-here by s i h e = rw (drop-cons s i 0 h) (lead-found by (getD s i 0) (drop 
 pub lead-there : (by : ℕ) (s : List ℕ) (i : ℕ) → i < length s → (getD s i 0 ≡ by → ⊥) → lead by (drop i s) ≡ suc (lead by (drop (i + 1) s))
 lead-there by s i h e = rw (drop-cons s i 0 h, add-one i) (lead-passed by (getD s i 0) (drop (suc i) s) (ne-eqb (getD s i 0) by e))
 
--- behind the end of a text there is an empty stretch
-pub stretch-behind : (by : ℕ) (s : List ℕ) (i : ℕ) → length s ≤ i → [] ≡ stretch by (drop i s)
+-- past the end of a text there is an empty stretch
+pub stretch-past : (by : ℕ) (s : List ℕ) (i : ℕ) → length s ≤ i → [] ≡ stretch by (drop i s)
 unfolding lead
-stretch-behind by s i h = rw (drop-of-length-le s h)
+stretch-past by s i h = rw (drop-of-length-le s h)

@@ -4,7 +4,7 @@
 ghost use mathlib.Core.Path.{_≡_};
 ghost use Prim.Native.Nat.{_+_, _<_, _≤_};
 ghost use lib.ListN.{length, drop};
-ghost use Rattle.rules.specs.Text.{isDigit, digits, number, signed};
+ghost use Rattle.rules.specs.Text.{isDigit, moreDigits, number, signed};
 ghost use Rattle.text.specs.Stretches.{tab, lead, stretch};
 ghost use Rattle.text.specs.Fields.{NumberAt, TimeAt};
 ghost use Rattle.text.specs.Numbers.{cap, grown, fieldOf, timeOf, Small, negated, kept};
@@ -47,7 +47,7 @@ pub fn stretch_end(s: &[u8], from: usize, by: u8) -> usize
     i
 }
 
-// The field that starts at a place of a line, as its own stretch of the text; behind the line there is none, and it is empty.
+// The field that starts at a place of a line, as its own stretch of the text; past the line there is none, and it is empty.
 pub fn field_at(line: &[u8], at: usize) -> &[u8]
     ensures { λ r. ⌜ now r ≡ stretch tab (drop at (now (line .entry))) ⌝ }
 {
@@ -81,7 +81,7 @@ fn grow(n: u64, b: u8) -> u64
 
 // The number that a part's digits state, zeros in front let through.
 fn digits_of(part: &[u8], next: usize) -> Field
-    ensures { λ r. ⌜ r ≡ fieldOf (digits 0 (now (part .entry))) next ⌝ }
+    ensures { λ r. ⌜ r ≡ fieldOf (moreDigits 0 (now (part .entry))) next ⌝ }
 {
     let mut n: u64 = 0;
     let mut i = 0;

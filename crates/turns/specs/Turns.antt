@@ -8,12 +8,12 @@ use Rattle.rules.specs.declared.Ohm.{Ohm}
 use Rattle.rules.specs.declared.Femtofarad.{Femtofarad}
 use Rattle.rules.specs.declared.Femtosecond.{Femtosecond}
 use Rattle.rules.specs.Quantities.{workRoom}
-use Rattle.laws.specs.Joining.{join}
+use Rattle.laws.specs.Joining.{joinMarks}
 use Rattle.laws.specs.Steps.{joined}
 use Rattle.laws.specs.Moves.{behind}
 use Rattle.columns.specs.Run.{Candidate}
 use Rattle.columns.specs.Made.{Fit, wireOf}
-use Rattle.pairs.specs.Stands.{isBelow, isCovering}
+use Rattle.pairs.specs.Stands.{isBelow, isCovering, isCovered}
 use Rattle.rules.specs.declared.Cand.{Cand}
 use Rattle.turns.specs.declared.Step.{Step}
 use Rattle.turns.specs.declared.Step.the-variants.{Put, Move, FirstWire, Wire, FirstChoice, Choose, Insert, Shift, Branch}
@@ -42,7 +42,7 @@ Can (FirstChoice own r) x y = Chooses own r x
 Can (Choose own r) x y = Chooses own r x
 Can Insert x y = Unit {0}
 Can Shift x y = Unit {0}
-Can (Branch end mid) x y = Fit (joined join x y)
+Can (Branch end mid) x y = Fit (joined joinMarks x y)
 
 -- ---- what it makes
 abbrev pub Putting : Pass → Turn → Type 0
@@ -62,10 +62,10 @@ Wiring r c p x y t =
     (passOf (Wire r c) (p .left - 1) (p .from + 1) (p .to) (p .to + 1) (p .held) (p .worth))
     (passOf (Wire r c) (p .left - 1) (p .from + 1) (p .with) (p .to) (p .held) (p .worth)))
 
-abbrev pub FirstChoosing : (own : ℕ) → Ohm → Pass → Cand → Turn → Type 0
+abbrev pub FirstChoosing : (own : Femtosecond) → Ohm → Pass → Cand → Turn → Type 0
 FirstChoosing own r p x t = (t .put ≡ x) × (t .next ≡ passOf (Choose own r) (p .left - 1) (p .from + 1) (p .with) (p .to + 1) x (worthOf own r x))
 
-abbrev pub Choosing : (own : ℕ) → Ohm → Pass → Cand → Turn → Type 0
+abbrev pub Choosing : (own : Femtosecond) → Ohm → Pass → Cand → Turn → Type 0
 Choosing own r p x t =
     (t .put ≡ x)
     × (t .next ≡ cond (ltZ (p .worth .0) (worthOf own r x .0))
@@ -80,10 +80,10 @@ abbrev pub Searching : Pass → Cand → Turn → Type 0
 Searching p x t =
     cond (isBelow (x .load .0) (x .time .0) (p .held .load .0) (p .held .time .0))
     ((t .put ≡ x) × (t .next ≡ passOf Insert (p .left - 1) (p .from + 1) (p .with) (p .to + 1) (p .held) (p .worth)))
+    (cond (isCovered (p .held .load .0) (p .held .time .0) (x .load .0) (x .time .0))
+    ((t .put ≡ x) × (t .next ≡ passOf Move (p .left - 2) (p .from + 1) (p .with) (p .to + 1) (p .held) (p .worth)))
     (cond (isCovering (p .held .load .0) (p .held .time .0) (x .load .0) (x .time .0))
     ((t .put ≡ x) × (t .next ≡ passOf Insert (p .left - 1) (p .from + 1) (p .with) (p .to) (p .held) (p .worth)))
-    (cond (isCovering (x .load .0) (x .time .0) (p .held .load .0) (p .held .time .0))
-    ((t .put ≡ x) × (t .next ≡ passOf Move (p .left - 2) (p .from + 1) (p .with) (p .to + 1) (p .held) (p .worth)))
     (Shifting p x t)))
 
 abbrev pub Inserting : Pass → Cand → Turn → Type 0
@@ -102,7 +102,7 @@ onWith p x y = p .with + cond (ltZ (x .time .0) (y .time .0)) 0 1
 
 abbrev pub Branching : (end mid : ℕ) → Pass → (x y : Cand) → Turn → Type 0
 Branching end mid p x y t =
-    (candOf (t .put) ≡ joined join (candOf x) (candOf y))
+    (candOf (t .put) ≡ joined joinMarks (candOf x) (candOf y))
     × (t .next ≡ passOf (Branch end mid) (bothLeft (p .left) (onFrom p x y) (onWith p x y) end mid) (onFrom p x y) (onWith p x y) (p .to + 1) (p .held) (p .worth))
 
 abbrev pub Turned : Step → Pass → (x y : Cand) → Turn → Type 0

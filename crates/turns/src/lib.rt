@@ -20,8 +20,8 @@ pub enum Step {
     FirstWire(Ohm, Femtofarad),
     Wire(Ohm, Femtofarad),
     // The first of those that are worth most behind a delay is held.
-    FirstChoice(u32, Ohm),
-    Choose(u32, Ohm),
+    FirstChoice(Femtosecond, Ohm),
+    Choose(Femtosecond, Ohm),
     // The held one is put into its place by load; then each that it moved aside.
     Insert,
     Shift,

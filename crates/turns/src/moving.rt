@@ -74,8 +74,8 @@ fn search_turn(p: Pass, x: Cand, to: usize) -> Turn
     Turn { put: x, next }
 }
 
-// One that beats the held one: the rest stays as it is.
-fn beaten_turn(p: Pass, x: Cand) -> Turn
+// One that covers the held one: it stays, and so does the rest.
+fn covered_turn(p: Pass, x: Cand) -> Turn
     requires { ⌜ Here p ⌝ }
     requires { ⌜ 2 ≤ p .left ⌝ }
     ensures { λ t. ⌜ (t .put ≡ x) × (t .next ≡ passOf Step.Move (p .left - 2) (p .from + 1) (p .with) (p .to + 1) (p .held) (p .worth)) ⌝ }
@@ -109,11 +109,11 @@ pub fn insert_turn(p: Pass, x: Cand) -> Turn
     if pairs::is_below(other, when, load, time) {
         return search_turn(p, x, p.to + 1);
     }
+    if pairs::is_covered(load, time, other, when) {
+        return covered_turn(p, x);
+    }
     if pairs::is_covering(load, time, other, when) {
         return search_turn(p, x, p.to);
-    }
-    if pairs::is_covering(other, when, load, time) {
-        return beaten_turn(p, x);
     }
     shift_turn(p, x)
 }

@@ -5,6 +5,7 @@ use crate::Turn;
 use crate::pass_at;
 use rules::Cand;
 use rules::Femtofarad;
+use rules::Femtosecond;
 use rules::Ohm;
 ghost use mathlib.Core.Path.{_≡_};
 ghost use mathlib.Core.Bool.{cond};
@@ -70,7 +71,7 @@ pub fn wire_turn(p: Pass, x: Cand, y: Cand, r: Ohm, c: Femtofarad) -> Turn
     Turn { put, next }
 }
 
-pub fn first_choice_turn(p: Pass, x: Cand, own: u32, r: Ohm) -> Turn
+pub fn first_choice_turn(p: Pass, x: Cand, own: Femtosecond, r: Ohm) -> Turn
     requires { ⌜ Here p ⌝ }
     requires { ⌜ Chooses own r (candOf x) ⌝ }
     ensures { λ t. ⌜ FirstChoosing own r p x t ⌝ }
@@ -88,7 +89,7 @@ pub fn first_choice_turn(p: Pass, x: Cand, own: u32, r: Ohm) -> Turn
     Turn { put: x, next }
 }
 
-pub fn choose_turn(p: Pass, x: Cand, own: u32, r: Ohm) -> Turn
+pub fn choose_turn(p: Pass, x: Cand, own: Femtosecond, r: Ohm) -> Turn
     requires { ⌜ Here p ⌝ }
     requires { ⌜ Chooses own r (candOf x) ⌝ }
     ensures { λ t. ⌜ Choosing own r p x t ⌝ }

@@ -8,7 +8,8 @@ use lib.Signed.{mag}
 use mir.Syntax.{w64}
 use mir.Val.{SFits, toZ, ofZ}
 use mir.Facts.{toZ-pos, toZ-ofZ}
-use Rattle.rules.specs.Quantities.{mostOhms, mostLoad}
+use Rattle.rules.specs.Quantities.{mostOhms}
+use Rattle.laws.specs.Ranges.{mostLoad}
 use Rattle.units.specs.Times.{farthest, mag-less, product-most}
 
 pub fits : (z : ℤ) → mag z < 2 ^ 63 → SFits w64 z

@@ -8,16 +8,29 @@ use lib.Dec.{leb, ltb}
 use lib.IntN.{ℤ, pos, negsuc, _-ℤ_, _+ℤ_}
 use lib.Signed.{mag, ltZ, leZ}
 use borrow.Author.Tests.{ltb-true, ltb-false, le-leb, lt-leb}
-use Rattle.rules.specs.Quantities.{_⊖_, mostOhms, mostLoad}
+use Rattle.rules.specs.Quantities.{_⊖_, mostOhms, mostOwn}
+use Rattle.laws.specs.Ranges.{mostLoad}
 use Rattle.laws.specs.Integers.{minℤ}
 
 -- the greatest resistance times the greatest load
 abbrev pub mostDelay : ℕ
 mostDelay = 5_120_000_000_000
 
--- farther from zero than any slack, which lies between -3 × 10^15 and 10^12: the difference of two such times fits
+-- no farther from zero than any slack, which lies between -3 × 10^15 and 10^12
+abbrev pub farTime : ℕ
+farTime = 3_000_000_000_000_000
+
+-- farther still: the difference of two such times fits
 abbrev pub farthest : ℕ
 farthest = 4_000_000_000_000_000
+
+-- an own delay: no negative time, and in its range
+pub record Own (z : ℤ) : Type 0 where
+  pub forward : z ≡ pos (mag z)
+  pub range : mag z ≤ mostOwn
+
+pub own-of : (n : ℕ) → n ≤ mostOwn → Own (pos n)
+own-of n h = record { forward = refl; range = h }
 
 -- ---- delays
 pub product-most : (r c : ℕ) → r ≤ mostOhms → c ≤ mostLoad → r * c ≤ mostDelay
@@ -50,11 +63,6 @@ pub less-⊖ : (t d : ℤ) (n : ℕ) → d ≡ pos n → t -ℤ d ≡ t ⊖ n
 unfolding _⊖_
 less-⊖ t d n e = rw e
 
-pub mag-⊖ : (t : ℤ) (n : ℕ) → mag (t ⊖ n) ≤ mag t + n
-unfolding _⊖_
-mag-⊖ t zero = omega (arith, mag-add-pos t 0)
-mag-⊖ t (suc n) = omega (arith, mag-add-negsuc t n)
-
 -- ---- the minimum
 leb-not-ltb : (m n : ℕ) → leb m n ≡ not (ltb n m)
 leb-not-ltb m n = by (ltb n m) refl
@@ -77,11 +85,3 @@ minℤ-later a b e = rw (leZ-not-ltZ a b, e)
 pub minℤ-no-later : (a b : ℤ) → ltZ b a ≡ false → minℤ a b ≡ a
 unfolding minℤ
 minℤ-no-later a b e = rw (leZ-not-ltZ a b, e)
-
-pub mag-minℤ : (a b : ℤ) (m : ℕ) → mag a ≤ m → mag b ≤ m → mag (minℤ a b) ≤ m
-unfolding minℤ
-mag-minℤ a b m p q = by (leZ a b)
-  where
-    by : (t : Bool) → mag (cond t a b) ≤ m
-    by true = p
-    by false = q

@@ -6,7 +6,8 @@ ghost use mathlib.Core.Path.{_≡_};
 ghost use Prim.Native.Nat.{_+_, _*_, _≤_, _<_, max};
 ghost use lib.IntN.{pos, _-ℤ_};
 ghost use lib.Signed.{mag, ltZ};
-ghost use Rattle.rules.specs.Quantities.{mostOhms, mostLoad};
+ghost use Rattle.rules.specs.Quantities.{mostOhms};
+ghost use Rattle.laws.specs.Ranges.{mostLoad};
 ghost use Rattle.laws.specs.Integers.{minℤ};
 ghost use Rattle.units.specs.Times.{mostDelay, farthest};
 
@@ -49,7 +50,7 @@ pub fn earlier(a: Femtosecond, b: Femtosecond) -> Femtosecond
     if is_later(a, b) { b } else { a }
 }
 
-// Loads beside each other, or a wire's capacitance and the load behind it.
+// Loads beside each other, or a wire's capacitance and the load at its far end.
 pub fn together(a: Femtofarad, b: Femtofarad) -> Femtofarad
     requires { ⌜ a .0 + b .0 ≤ mostLoad ⌝ }
     ensures { λ r. ⌜ r .0 ≡ a .0 + b .0 ⌝ }

@@ -10,12 +10,13 @@ use Rattle.rules.specs.declared.Kind.the-variants.{Driver, Point, Sink}
 use Rattle.rules.specs.declared.Refusal.the-variants.{NoRow}
 use Rattle.rules.specs.declared.Slacking.{Slacking}
 use Rattle.rules.specs.declared.Slacking.the-variants.{Slack, Refused}
-use Rattle.rules.specs.Quantities.{_⊖_, mostOhms, mostFemtofarads, mostOwn, mostLoad}
+use Rattle.rules.specs.Quantities.{_⊖_, mostOhms, mostFemtofarads, mostOwn}
 use Rattle.rules.specs.Entries.{Repeater}
 use Rattle.laws.specs.Integers.{minℤ, ⊖-⊖}
-use Rattle.laws.specs.Ranges.{RepeaterInRange}
-use Rattle.rows.specs.declared.Buffer.{Buffer}
-use Rattle.rows.specs.Rows.{IsBuffer}
+use Rattle.laws.specs.Ranges.{RepeaterInRange, mostLoad}
+use Rattle.repeaters.specs.declared.Buffer.{Buffer}
+use Rattle.repeaters.specs.Repeaters.{IsBuffer}
+use Rattle.units.specs.Times.{farTime}
 use Rattle.upward.specs.declared.Hung.{Hung}
 use Rattle.upward.specs.declared.Hung.the-variants.{Nothing, Seen}
 
@@ -25,10 +26,6 @@ seenAs l t = Seen (record { 0 = l }) (record { 0 = t })
 
 pub seen-is : (l : Femtofarad) (t : Femtosecond) (a : ℕ) (b : ℤ) → l .0 ≡ a → t .0 ≡ b → Seen l t ≡ seenAs a b
 seen-is l t a b e f = λ i. Seen (record { 0 = e i }) (record { 0 = f i })
-
--- no farther from zero than any slack, which lies between -3 × 10^15 and 10^12
-abbrev pub farTime : ℕ
-farTime = 3_000_000_000_000_000
 
 -- a load and a time in their ranges
 abbrev pub Within : Hung → Type 0

@@ -1,6 +1,6 @@
-// What hangs somewhere as a load and a time, and the steps from the sinks up, by value: behind a wire, beside each other, behind a
+// What hangs somewhere as a load and a time, and the steps from the sinks up, by value: behind a wire, beside each other, after a
 // repeater, what a row starts from, and the slack at the driver.
-use rows::Buffer;
+use repeaters::Buffer;
 use rules::Femtofarad;
 use rules::Femtosecond;
 use rules::Kind;
@@ -11,11 +11,13 @@ ghost use mathlib.Core.Path.{_≡_};
 ghost use Prim.Native.Nat.{_+_, _*_, _≤_};
 ghost use lib.IntN.{pos, _-ℤ_};
 ghost use lib.Signed.{mag};
-ghost use Rattle.rules.specs.Quantities.{_⊖_, mostOhms, mostLoad};
+ghost use Rattle.rules.specs.Quantities.{_⊖_, mostOhms};
 ghost use Rattle.rules.specs.Entries.{Repeater};
-ghost use Rattle.rows.specs.Rows.{IsBuffer};
+ghost use Rattle.laws.specs.Ranges.{mostLoad};
+ghost use Rattle.repeaters.specs.Repeaters.{IsBuffer};
 ghost use Rattle.laws.specs.Integers.{minℤ};
-ghost use Rattle.upward.specs.Hung.{seenAs, farTime, Within, BufferIn, wireHung, besideHung, repeatHung, startHung, slackHung};
+ghost use Rattle.units.specs.Times.{farTime};
+ghost use Rattle.upward.specs.Hung.{seenAs, Within, BufferIn, wireHung, besideHung, repeatHung, startHung, slackHung};
 
 // What hangs somewhere: nothing, or the load it shows and its time.
 pub enum Hung {

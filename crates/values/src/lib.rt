@@ -6,12 +6,13 @@ use rules::Ohm;
 ghost use mathlib.Core.Path.{_≡_};
 ghost use Prim.Native.Nat.{_<_};
 ghost use Rattle.rules.specs.Quantities.{sitesRoom};
-ghost use Rattle.laws.specs.Joining.{join};
-ghost use Rattle.laws.specs.Joining.{set as mark};
+ghost use Rattle.marks.specs.Marks.{marksEnd};
+ghost use Rattle.laws.specs.Joining.{joinMarks};
+ghost use Rattle.laws.specs.Joining.{withMark};
 ghost use Rattle.laws.specs.Steps.{joined};
 ghost use Rattle.laws.specs.Moves.{behind};
 ghost use Rattle.rules.specs.Placements.{marks};
-ghost use Rattle.rules.specs.Promises.{zeros};
+ghost use Rattle.rules.specs.Areas.{zeros};
 ghost use Rattle.columns.specs.Run.{candidate};
 ghost use Rattle.columns.specs.Made.{Fit, wireOf};
 ghost use Rattle.values.specs.Records.{candOf, plainOf};
@@ -50,8 +51,8 @@ pub fn wired(x: Cand, r: Ohm, c: Femtofarad) -> Cand
 
 // Two candidates that meet at a branch.
 pub fn joined(x: Cand, y: Cand) -> Cand
-    requires { ⌜ Fit (joined join (candOf x) (candOf y)) ⌝ }
-    ensures { λ z. ⌜ candOf z ≡ joined join (candOf x) (candOf y) ⌝ }
+    requires { ⌜ Fit (joined joinMarks (candOf x) (candOf y)) ⌝ }
+    ensures { λ z. ⌜ candOf z ≡ joined joinMarks (candOf x) (candOf y) ⌝ }
 {
     let a = x.load;
     let b = y.load;
@@ -67,7 +68,7 @@ pub fn joined(x: Cand, y: Cand) -> Cand
 }
 
 // What a repeater's or the driver's input sees of a candidate: its time before the delay.
-pub fn worth(x: Cand, own: u32, r: Ohm) -> Femtosecond
+pub fn worth(x: Cand, own: Femtosecond, r: Ohm) -> Femtosecond
     requires { ⌜ Chooses own r (candOf x) ⌝ }
     ensures { λ v. ⌜ v ≡ worthOf own r x ⌝ }
 {
@@ -78,8 +79,8 @@ pub fn worth(x: Cand, own: u32, r: Ohm) -> Femtosecond
 
 // Behind a repeater of type m at site k: the type's input load, and the time that was worked out from the load driven.
 pub fn typed(x: Cand, input: Femtofarad, time: Femtosecond, k: usize, m: u64) -> Cand
-    requires { ⌜ (k < sitesRoom) × (m < 16) ⌝ }
-    ensures { λ y. ⌜ candOf y ≡ candidate (input .0) (time .0) (mark k m (marks (x .words))) ⌝ }
+    requires { ⌜ (k < sitesRoom) × (m < marksEnd) ⌝ }
+    ensures { λ y. ⌜ candOf y ≡ candidate (input .0) (time .0) (withMark k m (marks (x .words))) ⌝ }
 {
     let a = x.words;
     let words = marks::with_mark(a, k, m);

@@ -7,6 +7,7 @@ use cases::places::Place;
 use cases::words::Word;
 use lending::stamps;
 use lending::sums;
+use rooms::PLACEMENT_ROOM;
 use rooms::ROW_WORDS;
 use rooms::TYPE_WORDS;
 use rules::Checking;
@@ -14,7 +15,7 @@ use rules::Planning;
 use rules::Reading;
 use rules::Slacking;
 
-// The sum over the words in use, and whether the words behind them are kept.
+// The sum over the words in use, and whether the words after them are kept.
 fn sum_line(types: &[u32], rows: &[u32], due: &[i64], t: usize, r: usize, d: usize) {
     saying::say(b" sum");
     saying::sum(sums::sum_of(types, rows, due, t, r, d));
@@ -82,7 +83,7 @@ fn plan_line(planned: Planned) {
     }
 }
 
-fn marks(best: &[u64; 4]) {
+fn marks(best: &[u64; PLACEMENT_ROOM]) {
     saying::marks(best[0]);
     saying::marks(best[1]);
     saying::marks(best[2]);
@@ -97,7 +98,7 @@ fn of_parts(
     types: &[u32],
     rows: &[u32],
     due: &[i64],
-    best: &mut [u64; 4],
+    best: &mut [u64; PLACEMENT_ROOM],
 ) {
     let t = p.type_count;
     let r = p.row_count;
@@ -119,7 +120,7 @@ pub fn of_tables(
     types: &[u32],
     rows: &[u32],
     due: &[i64],
-    best: &mut [u64; 4],
+    best: &mut [u64; PLACEMENT_ROOM],
 ) {
     let t = stamps::least(p.types, types.len());
     let r = stamps::least(p.rows, rows.len());

@@ -4,7 +4,7 @@
 //   case NAME               the name that the lines of the answers begin with
 //   text                    an empty text
 //   bytes TIMES LENGTH      from the next line on LENGTH bytes and a line feed: these bytes added to the text so many times
-//   types N, rows N, due N  from the next line on N numbers, each ended by one byte: the first words of an area, zero behind
+//   types N, rows N, due N  from the next line on N numbers, each ended by one byte: the first words of an area, zero past
 //   areas T R D             how many words of types, rows and due are lent
 //   counts TYPES ROWS       how many types and rows the tables are said to have
 //   read                    read_net: the counts, and the sum over the words in use of word times position, from 1
@@ -24,6 +24,7 @@ mod requests;
 mod saying;
 
 use cases::places::Step;
+use rooms::PLACEMENT_ROOM;
 
 const INPUT_ROOM: usize = 262_144;
 
@@ -34,7 +35,7 @@ fn run(
     types: &mut [u32],
     rows: &mut [u32],
     due: &mut [i64],
-    best: &mut [u64; 4],
+    best: &mut [u64; PLACEMENT_ROOM],
 ) -> bool {
     let mut p = cases::places::start();
     let mut turns = INPUT_ROOM;
@@ -60,7 +61,7 @@ fn told(input: &[u8], n: usize) -> bool {
     let mut types = [0u32; 100];
     let mut rows = [0u32; 3000];
     let mut due = [0i64; 1000];
-    let mut best = [0u64; 4];
+    let mut best = [0u64; PLACEMENT_ROOM];
     run(
         &input[..n],
         &mut text,

@@ -5,6 +5,7 @@ use cases::places::Place;
 use cases::places::Step;
 use cases::requests::Request;
 use cases::words::Word;
+use rooms::PLACEMENT_ROOM;
 
 fn echo(s: &[u8], from: usize, to: usize) {
     if to < from {
@@ -38,7 +39,7 @@ fn given(
     types: &mut [u32],
     rows: &mut [u32],
     due: &mut [i64],
-    best: &mut [u64; 4],
+    best: &mut [u64; PLACEMENT_ROOM],
 ) -> Step {
     if cases::words::is_question(word) {
         say_question(s, p, from);
@@ -58,7 +59,7 @@ pub fn next_request(
     types: &mut [u32],
     rows: &mut [u32],
     due: &mut [i64],
-    best: &mut [u64; 4],
+    best: &mut [u64; PLACEMENT_ROOM],
 ) -> Step {
     let mut n = [0u64; 6];
     match cases::requests::request_at(s, p, &mut n) {

@@ -10,7 +10,8 @@ use Rattle.rules.specs.Quantities.{mostOhms, workRoom}
 use Rattle.rules.specs.Entries.{Repeater}
 use Rattle.rules.specs.Net.{wireOf}
 use Rattle.rules.specs.Slack.{typeOf}
-use Rattle.laws.specs.Joining.{join}
+use Rattle.rooms.specs.Links.{nextAt, sitesAt}
+use Rattle.laws.specs.Joining.{joinMarks}
 use Rattle.laws.specs.Steps.{merge}
 use Rattle.laws.specs.Moves.{wireStep}
 use Rattle.laws.specs.Accepted.{Accepted}
@@ -18,7 +19,7 @@ use Rattle.laws.specs.Rows.{row-in, type-in}
 use Rattle.laws.specs.Room.{HasRoom, room-at}
 use Rattle.laws.specs.Walk.{noRow, under, seenAt, atRow-seen}
 use Rattle.laws.specs.Tabled.{rowAt, rowsFrom, rows-length, repeatersFrom, repeaters-length, repeaters-at}
-use Rattle.rows.specs.Links.{nextAt, sitesAt, row-is}
+use Rattle.rows.specs.Links.{row-is}
 use Rattle.rows.specs.Backward.{rowsLeft}
 use Rattle.columns.specs.Parts.{part}
 use Rattle.columns.specs.Run.{Candidate}
@@ -146,7 +147,7 @@ module _ (ws : List ℕ) (ds : List ℤ) (ts : List ℕ) (count n : ℕ) (ls : L
             pub sibling-hang : Hang w₂ at m own (wireOf (rowAt ws ds s))
             sibling-hang = rw (row-n sibling-more) at (next-hang (G .accepted) (G .linked) p at (inside-n h) room-p c w w₁ m S long₁ s (sym s-is) (inside-n sibling-more) w₂ long₂ own O)
 
-            pub sibling-made : (w₃ : List Candidate) (len : ℕ) → Gives w₂ w₃ at len (merge join (wireStep (wireOf (rowAt ws ds s)) (part (at + m) (at + m + own) w₂)) (part at (at + m) w₂)) → Siblings types R ls p s w w₃ at len
+            pub sibling-made : (w₃ : List Candidate) (len : ℕ) → Gives w₂ w₃ at len (merge joinMarks (wireStep (wireOf (rowAt ws ds s)) (part (at + m) (at + m + own) w₂)) (part at (at + m) w₂)) → Siblings types R ls p s w w₃ at len
             sibling-made w₃ len g = next-made (G .accepted) (G .linked) p at (inside-n h) room-p c w w₁ m S long₁ s (sym s-is) (inside-n sibling-more) w₂ long₂ own O w₃ len (rw (row-n sibling-more) g)
 
 -- the room at the start of the work area

@@ -8,6 +8,7 @@ use native.Mathlib.Omega.{arith}
 use native.Mathlib.Decide.{decLt}
 use lib.Dec.{T}
 use lib.ListN.{length, getD}
+use Rattle.rules.specs.Quantities.{listRoom, workRoom}
 use Rattle.rules.specs.declared.Row.{Row}
 use Rattle.rules.specs.Entries.{Repeater, rowOf}
 use Rattle.rules.specs.Refusals.{isSink}
@@ -53,7 +54,7 @@ sites-step rows c h = rw (from-step rows c h) (besides (wireOf (getD rows c noRo
 
 -- ---- the room passes along the links: rows are left from c on, and after row c
 module _ (types : ℕ) (rows : List Row) (c at : ℕ) (h : c < length rows) (room : HasRoom types at (length rows - c) (from rows c)) where
-  sum : at + (length rows - c) + types * (over sitesOn (seenAt rows c) + over sitesOn (under rows (getD rows c noRow .parent) (c + 1))) ≤ 511
+  sum : at + (length rows - c) + types * (over sitesOn (seenAt rows c) + over sitesOn (under rows (getD rows c noRow .parent) (c + 1))) ≤ workRoom - listRoom
   sum = rw (← (sites-step rows c h)) room
 
   -- to the next row under the same parent
@@ -62,7 +63,7 @@ module _ (types : ℕ) (rows : List Row) (c at : ℕ) (h : c < length rows) (roo
       let d = child-is rows (getD rows c noRow .parent) (c + 1) (omega arith) in
       rw (e, from-child rows (getD rows c noRow .parent) (c + 1) (omega arith)) (omega (arith, sum, d .from))
 
-  -- to the row itself, behind m candidates of the rows after it
+  -- to the row itself, after m candidates of the rows after it
   pub room-seen : (m : ℕ) → m ≤ 1 + types * over sitesOn (under rows (getD rows c noRow .parent) (c + 1)) → HasRoom types (at + m) (length rows - (c + 1)) (seenAt rows c)
   room-seen m g = omega (arith, sum)
 

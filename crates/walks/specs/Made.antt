@@ -9,13 +9,14 @@ use lib.ListN.{length, getD, set}
 use Rattle.rules.specs.declared.Kind.{Kind}
 use Rattle.rules.specs.declared.Kind.the-variants.{Driver, Point, Sink}
 use Rattle.rules.specs.declared.Row.{Row}
-use Rattle.rules.specs.Lists.{All, Pairwise}
+use Rattle.rules.specs.Lists.{All}
 use Rattle.rules.specs.Quantities.{typesRoom, rowsRoom, sitesRoom, workRoom}
 use Rattle.rules.specs.Entries.{Repeater}
 use Rattle.rules.specs.Net.{Wire, Tree}
 use Rattle.rules.specs.Tables.{typeWords, rowWords}
+use Rattle.laws.specs.Lists.{EveryTwo}
 use Rattle.laws.specs.Candidates.{Below}
-use Rattle.laws.specs.Joining.{join}
+use Rattle.laws.specs.Joining.{joinMarks}
 use Rattle.laws.specs.Steps.{merge}
 use Rattle.laws.specs.Moves.{behind, wireStep}
 use Rattle.laws.specs.Accepted.{Accepted}
@@ -59,20 +60,20 @@ pub record Wired (w : List Candidate) (at n : ℕ) (link : Wire) : Type 0 where
   pub fit : All Fit (part at (at + n) w)
   pub behind-fit : All Fit (map (behind link) (part at (at + n) w))
 
--- a list of n to be put behind a wire, behind a list of m that it is then joined with
+-- a list of n to be put behind a wire, after a list of m that it is then joined with
 pub record Hang (w : List Candidate) (at m n : ℕ) (link : Wire) : Type 0 where
   pub first : 1 ≤ m
   pub own : Wired w (at + m) n link
   pub kept : 1 ≤ length (wireStep link (part (at + m) (at + m + n) w))
   pub room : at + m + n + (m + n) ≤ suc workRoom
-  pub fit : All Fit (merge join (wireStep link (part (at + m) (at + m + n) w)) (part at (at + m) w))
+  pub fit : All Fit (merge joinMarks (wireStep link (part (at + m) (at + m + n) w)) (part at (at + m) w))
 
 -- a list of n at a place, where site k is to be put on it, if it is a site
 pub record Sited (w : List Candidate) (at n count : ℕ) (hasSite : Bool) (k : ℕ) : Type 0 where
   pub some : 1 ≤ n
   pub place : at + n + count + count ≤ workRoom
   pub fit : All Fit (part at (at + n) w)
-  pub rising : Pairwise Below (part at (at + n) w)
+  pub rising : EveryTwo Below (part at (at + n) w)
   pub number : hasSite ≡ true → k < sitesRoom
 
 -- a row's pin or what hangs under it, at a place, where the row's site is still to be put on it

@@ -13,16 +13,16 @@ use Rattle.rules.specs.declared.Kind.{Kind}
 use Rattle.rules.specs.declared.Kind.the-variants.{Driver, Point, Sink}
 use Rattle.rules.specs.declared.Pin.{Pin}
 use Rattle.rules.specs.declared.Row.{Row}
-use Rattle.rules.specs.Lists.{All, Pairwise, nil, cons}
+use Rattle.rules.specs.Lists.{All, nil, cons}
 use Rattle.rules.specs.Quantities.{sitesRoom, workRoom}
 use Rattle.rules.specs.Entries.{Repeater, siteCount}
 use Rattle.rules.specs.Refusals.{isSink}
 use Rattle.rules.specs.Net.{Wire, Tree, wire, wireOf, wired, beside}
 use Rattle.rules.specs.Pairs.{sitesOn}
 use Rattle.laws.specs.Integers.{times, hi, lo}
-use Rattle.laws.specs.Lists.{all-map}
+use Rattle.laws.specs.Lists.{all-map, EveryTwo, ends, leads}
 use Rattle.laws.specs.Candidates.{Below}
-use Rattle.laws.specs.Joining.{join}
+use Rattle.laws.specs.Joining.{joinMarks}
 use Rattle.laws.specs.Steps.{merge}
 use Rattle.laws.specs.Moves.{behind, wireStep}
 use Rattle.laws.specs.Method.{behind-reaches}
@@ -43,14 +43,14 @@ use Rattle.walks.specs.Links.{from, from-child, from-step, sites-step, r
 
 -- ---- a list that shows something, as it stands in the run
 module _ {types : List Repeater} {rows : List Row} (ok : Accepted types rows) where
-  shows-rising : (u : Option Tree) (l : List Candidate) → Shows types u l → Pairwise Below l
-  shows-rising none l s = rw s nil
-  shows-rising (some t) l s = s .rising
+  shows-rising : (u : Option Tree) (l : List Candidate) → Shows types u l → EveryTwo Below l
+  shows-rising none l s = rw s ends
+  shows-rising (some t) l s = s .front .rising
 
   -- behind a wire its candidates are in their ranges too
   shows-behind : (w : Wire) (u : Option Tree) (l : List Candidate) → Within (wired w u) → Shows types u l → All Fit (map (behind w) l)
   shows-behind w none l h s = rw s nil
-  shows-behind w (some t) l h s = all-map (behind w) (λ c r. let q = reached-within ok (wire w t) (behind w c) h (behind-reaches types w r) in record { load = q .0; low = q .1; top = q .2 }) (s .sound)
+  shows-behind w (some t) l h s = all-map (behind w) (λ c r. let q = reached-within ok (wire w t) (behind w c) h (behind-reaches types w r) in record { load = q .0; low = q .1; top = q .2 }) (s .front .sound)
 
   at-length : (w : List Candidate) (at len : ℕ) → workRoom ≤ length w → at + len ≤ workRoom → length (part at (at + len) w) ≡ len
   at-length w at len h g = part-length at (at + len) w (omega arith) ∙ omega arith
@@ -94,7 +94,7 @@ module _ {types : List Repeater} {rows : List Row} (ok : Accepted types rows) wh
           record { load = omega (arith, h .0); low = omega times; top = omega times }
 
       pub pin-sited : Sited w₁ at 1 (length types) (x .site) k
-      pin-sited = record { some = omega arith; place = omega (arith, room, ok .types-few); fit = rw alone (cons pin-fit nil); rising = rw alone (cons nil nil); number = number }
+      pin-sited = record { some = omega arith; place = omega (arith, room, ok .types-few); fit = rw alone (cons pin-fit nil); rising = rw alone (leads nil ends); number = number }
 
       pub nothing-under : under rows r (r + 1) ≡ none
       unfolding under
@@ -180,7 +180,7 @@ module _ {types : List Repeater} {rows : List Row} (ok : Accepted types rows) wh
             let S : Shows types (from rows c) (wireStep link (part at (at + own) w₁)) = rw step (shows-alone types link (seenAt rows c) others _ (beyond .same ∙ under-end rows (getD rows c noRow .parent) next (omega arith)) (O .shows)) in
             record { before = G .before ∙ O .before; shows = rw (G .list) S; fits = from-fits _ len (G .count-is) S }
 
-      -- ---- the next row under the same parent has its list, and the row's own stands behind it
+      -- ---- the next row under the same parent has its list, and the row's own stands after it
       module _ (more : next < length rows) (w w₁ : List Candidate) (long₁ : workRoom ≤ length w₁) (later : ℕ) (L : Made types (from rows next) w w₁ at later) where
         next-others : from rows next ≡ others
         next-others = rw next-is (from-child rows (getD rows c noRow .parent) (c + 1) (omega arith))
@@ -198,7 +198,7 @@ module _ {types : List Repeater} {rows : List Row} (ok : Accepted types rows) wh
           few-own : own ≤ 1 + length types * over sitesOn (seenAt rows c)
           few-own = made-few (seenAt rows c) w₂ (at + later) own long₂ (O .fits) (seen-proper ok c inside) (O .shows)
 
-          S : Shows types (from rows c) (merge join (wireStep link (part (at + later) (at + later + own) w₂)) (part at (at + later) w₂))
+          S : Shows types (from rows c) (merge joinMarks (wireStep link (part (at + later) (at + later + own) w₂)) (part at (at + later) w₂))
           S = rw step (shows-beside types link (seenAt rows c) others _ _ (seen-some ok c inside) (λ e. from-some ok next more (next-others ∙ e)) (rw link-is (seen-apart ok c one inside)) (O .shows) shows-later)
 
           pub beside-hang : Hang w₂ at later own link
@@ -214,11 +214,11 @@ module _ {types : List Repeater} {rows : List Row} (ok : Accepted types rows) wh
               wired-some w none f e = f refl
               wired-some w (some t) f e = let z : _≡_ {A = ℕ} 0 1 = cc in omega arith
 
-              seen-within-few : over sitesOn (from rows c) ≤ 64
+              seen-within-few : over sitesOn (from rows c) ≤ sitesRoom
               seen-within-few = from-within ok c one inside .few
 
               both-few : length types * over sitesOn (from rows c) ≡ length types * over sitesOn (seenAt rows c) + length types * over sitesOn others
               both-few = rw (sites-step rows c inside) (mul-add (length types) (over sitesOn (seenAt rows c)) (over sitesOn others))
 
-          pub beside-made : (w₃ : List Candidate) (len : ℕ) → Gives w₂ w₃ at len (merge join (wireStep link (part (at + later) (at + later + own) w₂)) (part at (at + later) w₂)) → Made types (from rows c) w w₃ at len
+          pub beside-made : (w₃ : List Candidate) (len : ℕ) → Gives w₂ w₃ at len (merge joinMarks (wireStep link (part (at + later) (at + later + own) w₂)) (part at (at + later) w₂)) → Made types (from rows c) w w₃ at len
           beside-made w₃ len G = record { before = G .before ∙ part-less at (at + later) w₁ w₂ (omega arith) (O .before) ∙ L .before; shows = rw (G .list) S; fits = from-fits _ len (G .count-is) S }

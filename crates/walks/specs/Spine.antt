@@ -17,12 +17,12 @@ use Rattle.rules.specs.Entries.{Repeater}
 use Rattle.rules.specs.Refusals.{isSink}
 use Rattle.rules.specs.Net.{Tree, beside}
 use Rattle.rules.specs.Pairs.{sitesOn}
+use Rattle.rooms.specs.Links.{nextAt}
 use Rattle.laws.specs.Accepted.{Accepted}
 use Rattle.laws.specs.Rows.{later-at}
 use Rattle.laws.specs.Sums.{over}
 use Rattle.laws.specs.Room.{HasRoom, room-under}
 use Rattle.laws.specs.Walk.{noRow, sitesBefore, under, seenAt, under-end, under-passed}
-use Rattle.rows.specs.Links.{nextAt}
 use Rattle.rows.specs.Alike.{Alike, alike-none, beside-none}
 use Rattle.rows.specs.Backward.{Backward, Chain, end, next, hungAt}
 use Rattle.walks.specs.Links.{from, from-child, from-some, sites-step, room-alone, first-inside}

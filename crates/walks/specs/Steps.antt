@@ -8,7 +8,7 @@ use lib.IntN.{ℤ}
 use lib.ListN.{length}
 use Rattle.rules.specs.Quantities.{workRoom}
 use Rattle.rules.specs.Net.{Wire}
-use Rattle.laws.specs.Joining.{join, set}
+use Rattle.laws.specs.Joining.{joinMarks, withMark}
 use Rattle.laws.specs.Steps.{merge}
 use Rattle.laws.specs.Moves.{wireStep, siteStep}
 use Rattle.laws.specs.Tabled.{repeatersFrom}
@@ -42,7 +42,7 @@ module _ (w : List Candidate) (at m n : ℕ) (link : Wire) (H : Hang w at m n li
   pub hang-pair : Pair w₁ at m k
   hang-pair = record { first = H .first; second = omega (arith, H .kept, G .count-is); place = omega (arith, H .room, few); fit = rw (G .list, still) (H .fit) }
 
-  pub hang-gives : (w₂ : List Candidate) (len : ℕ) → Gives w₁ w₂ at len (merge join (part (at + m) (at + m + k) w₁) (part at (at + m) w₁)) → Gives w w₂ at len (merge join (wireStep link (part (at + m) (at + m + n) w)) (part at (at + m) w))
+  pub hang-gives : (w₂ : List Candidate) (len : ℕ) → Gives w₁ w₂ at len (merge joinMarks (part (at + m) (at + m + k) w₁) (part at (at + m) w₁)) → Gives w w₂ at len (merge joinMarks (wireStep link (part (at + m) (at + m + n) w)) (part at (at + m) w))
   hang-gives w₂ len J = record { before = J .before ∙ part-less at (at + m) w w₁ (omega arith) (G .before); list = rw (G .list, still) at (J .list); count-is = rw (G .list, still) at (J .count-is) }
 
 -- ---- a site
@@ -53,7 +53,7 @@ module _ (ts : List ℕ) (count : ℕ) (w : List Candidate) (at n k : ℕ) (hasS
   pub sited-stand : Stand w at n
   sited-stand = record { some = S .some; place = omega (arith, S .place); fit = S .fit }
 
-  pub site-put : (w′ : List Candidate) (len : ℕ) → hasSite ≡ true → Gives w w′ at len (siteStep (repeatersOf ts count) (set k) (length (repeatersOf ts count)) (part at (at + n) w)) → Gives w w′ at len (siteList (repeatersFrom ts 0 count) hasSite k (part at (at + n) w))
+  pub site-put : (w′ : List Candidate) (len : ℕ) → hasSite ≡ true → Gives w w′ at len (siteStep (repeatersOf ts count) (withMark k) (length (repeatersOf ts count)) (part at (at + n) w)) → Gives w w′ at len (siteList (repeatersFrom ts 0 count) hasSite k (part at (at + n) w))
   unfolding siteList repeatersOf
   site-put w′ len e g = rw e g
 

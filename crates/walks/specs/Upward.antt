@@ -3,7 +3,7 @@
 use mathlib.Core.Path.{_≡_, refl, sym, ap, _∙_}
 use mathlib.Core.Bool.{not}
 use mathlib.Core.List.{List, []}
-use mathlib.Core.Option.{Option, none, some}
+use mathlib.Core.Option.{Option, none, some, Option·some-injective}
 use Prim.Native.Nat.{ℕ, suc, _+_, _*_, _-_, _≤_, _<_}
 use native.Mathlib.Omega.{arith}
 use native.Mathlib.Nat.{mul-le-mul, mul-le-mul-left, mul-add}
@@ -19,10 +19,13 @@ use Rattle.rules.specs.Entries.{Repeater}
 use Rattle.rules.specs.Refusals.{isSink}
 use Rattle.rules.specs.Net.{Wire, Tree, wireOf, wired, beside}
 use Rattle.rules.specs.Pairs.{sitesOn}
+use Rattle.rooms.specs.Links.{nextAt}
 use Rattle.laws.specs.Lists.{all-imp}
-use Rattle.laws.specs.Joining.{join}
+use Rattle.laws.specs.Joining.{joinMarks}
 use Rattle.laws.specs.Steps.{merge}
 use Rattle.laws.specs.Moves.{wireStep}
+use Rattle.laws.specs.Candidates.{Front}
+use Rattle.laws.specs.Method.{Reaches}
 use Rattle.laws.specs.Trees.{time}
 use Rattle.laws.specs.Accepted.{Accepted}
 use Rattle.laws.specs.Hanging.{ProperIf, hangs-parted}
@@ -30,7 +33,6 @@ use Rattle.laws.specs.Sums.{over}
 use Rattle.laws.specs.Within.{Within, within-under}
 use Rattle.laws.specs.Room.{HasRoom, room-under}
 use Rattle.laws.specs.Walk.{noRow, sitesBefore, under, seenAt, child}
-use Rattle.rows.specs.Links.{nextAt}
 use Rattle.rows.specs.Alike.{Alike, alike-then, alike-first, alike-within, within-left, beside-none, sites-beside, proper-parts}
 use Rattle.rows.specs.Backward.{Backward, Chain, next, chain-left, chain-one, hungAt, rowsLeft}
 use Rattle.columns.specs.Parts.{part, part-over, part-less, part-part}
@@ -90,21 +92,24 @@ timeOr none z = z
 timeOr (some t) z = t
 
 module _ (types : List Repeater) where
-  alike-shows : (u v : Option Tree) (l : List Candidate) → Alike u v → Shows types u l → Shows types v l
-  alike-shows u v l A s = go u v A s
+  alike-shows : (u v : Option Tree) (l : List Candidate) → ProperIf v → Alike u v → Shows types u l → Shows types v l
+  alike-shows u v l ok A s = go u v ok A s
     where
       clash : (t : ℤ) → some t ≡ none → _≡_ {A = ℕ} 0 1
       clash t e = cc
 
-      go : (u v : Option Tree) → Alike u v → Shows types u l → Shows types v l
-      go none none A s = s
-      go none (some t) A s = absurd (let z = clash (time types (λ j. 0) t) (sym (A .time types (λ j. 0))) in omega arith)
-      go (some t) none A s = absurd (let z = clash (time types (λ j. 0) t) (A .time types (λ j. 0)) in omega arith)
-      go (some a) (some b) A F = record {
-        rising = F .rising;
-        sound = all-imp (λ c r. record { legal = record { known = r .legal .known; only = λ j o. r .legal .only j (λ k. o (A .on j k)) }; load = r .load ∙ A .load types (c .place); time = r .time ∙ ap (λ z. timeOr z (c .time)) (A .time types (c .place)) }) (F .sound);
-        whole = λ c r. F .whole c (record { legal = record { known = r .legal .known; only = λ j o. r .legal .only j (λ k. o (A .back j k)) }; load = r .load ∙ sym (A .load types (c .place)); time = r .time ∙ ap (λ z. timeOr z (c .time)) (sym (A .time types (c .place))) });
-      }
+      go : (u v : Option Tree) → ProperIf v → Alike u v → Shows types u l → Shows types v l
+      go none none p A s = s
+      go none (some t) p A s = absurd (let z = clash (time types (λ j. 0) t) (sym (A .time types (λ j. 0))) in omega arith)
+      go (some t) none p A s = absurd (let z = clash (time types (λ j. 0) t) (A .time types (λ j. 0)) in omega arith)
+      go (some a) (some b) p A C = record { exact = C .exact ∙ Option·some-injective _ _ (A .list types p); front = over (C .front) }
+        where
+          over : Front (Reaches types a) l → Front (Reaches types b) l
+          over F = record {
+            rising = F .rising;
+            sound = all-imp (λ c r. record { legal = record { known = r .legal .known; only = λ j o. r .legal .only j (λ k. o (A .on j k)) }; load = r .load ∙ A .load types (c .place); time = r .time ∙ ap (λ z. timeOr z (c .time)) (A .time types (c .place)) }) (F .sound);
+            whole = λ c r. F .whole c (record { legal = record { known = r .legal .known; only = λ j o. r .legal .only j (λ k. o (A .back j k)) }; load = r .load ∙ sym (A .load types (c .place)); time = r .time ∙ ap (λ z. timeOr z (c .time)) (sym (A .time types (c .place))) });
+          }
 
 module _ {types : List Repeater} {rows : List Row} (ok : Accepted types rows) where
   -- ---- at a row
@@ -183,14 +188,14 @@ module _ {types : List Repeater} {rows : List Row} (ok : Accepted types rows) wh
           }
 
     module _ (c : ℕ) (w w₁ : List Candidate) (m : ℕ) (S : Siblings types rows links p c w w₁ at m) where
-      -- none comes behind it: all is made
+      -- none comes after it: all is made
       pub all-made : getD links (nextAt + c) 0 ≡ length rows → Made types (under rows p (p + 1)) w w₁ at m
       all-made e =
           let z : S .rest ≡ none = chain-none (rw e at (S .chain)) in
           let A : Alike (S .hung) (under rows p (p + 1)) = rw (z, beside-none (S .hung)) at (S .alike) in
-          record { before = S .made .before; shows = alike-shows types (S .hung) (under rows p (p + 1)) _ A (S .made .shows); fits = S .made .fits }
+          record { before = S .made .before; shows = alike-shows types (S .hung) (under rows p (p + 1)) _ all-proper A (S .made .shows); fits = S .made .fits }
 
-      -- the row s behind it
+      -- the row s after it
       module _ (long₁ : workRoom ≤ length w₁) (s : ℕ) (s-is : getD links (nextAt + c) 0 ≡ s) (more : s < length rows) where
         M : Linked rows links p s (S .left) (S .rest)
         M = chain-next (rw s-is at (S .chain)) more
@@ -228,7 +233,7 @@ module _ {types : List Repeater} {rows : List Row} (ok : Accepted types rows) wh
           few-own : own ≤ 1 + length types * over sitesOn (seenAt rows s)
           few-own = made-few ok (seenAt rows s) w₂ (at + m) own long₂ (O .fits) (seen-proper ok s more) (O .shows)
 
-          both-shown : Shows types both-hung (merge join (wireStep (wireOf (getD rows s noRow)) (part (at + m) (at + m + own) w₂)) (part at (at + m) w₂))
+          both-shown : Shows types both-hung (merge joinMarks (wireStep (wireOf (getD rows s noRow)) (part (at + m) (at + m + own) w₂)) (part at (at + m) w₂))
           both-shown = shows-beside types (wireOf (getD rows s noRow)) (seenAt rows s) (S .hung) _ _ (seen-some ok s more) (S .some) (proper-parts (hungAt rows s) (S .hung) (part-proper both-hung (M .rest) both-alike) .0) (O .shows) (rw (part-part at (at + m) w₁ w₂ (O .before)) (S .made .shows))
 
           pub next-hang : Hang w₂ at m own (wireOf (getD rows s noRow))
@@ -240,7 +245,7 @@ module _ {types : List Repeater} {rows : List Row} (ok : Accepted types rows) wh
             fit = shows-fit types ok both-hung _ (part-within both-hung (M .rest) both-alike) both-shown;
           }
 
-          pub next-made : (w₃ : List Candidate) (len : ℕ) → Gives w₂ w₃ at len (merge join (wireStep (wireOf (getD rows s noRow)) (part (at + m) (at + m + own) w₂)) (part at (at + m) w₂)) → Siblings types rows links p s w w₃ at len
+          pub next-made : (w₃ : List Candidate) (len : ℕ) → Gives w₂ w₃ at len (merge joinMarks (wireStep (wireOf (getD rows s noRow)) (part (at + m) (at + m + own) w₂)) (part at (at + m) w₂)) → Siblings types rows links p s w w₃ at len
           next-made w₃ len G = record {
             below = M .below;
             hung = both-hung;

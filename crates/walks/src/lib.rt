@@ -1,5 +1,5 @@
 // The recursion over the table: the list at a row, and the list of what hangs under a row. Of the rows under the same parent the list of
-// the first, as the links lead, is made first, by a loop; only the rows behind it recurse.
+// the first, as the links lead, is made first, by a loop; only the rows after it recurse.
 ghost use Prim.Native.Nat.{_+_, _-_, _<_};
 ghost use lib.ListN.{getD};
 ghost use Rattle.laws.specs.Room.{HasRoom};
@@ -71,7 +71,7 @@ pub fn seen(
 }
 
 // The list of what hangs under row p, made at a place where the list at p's first row below stands: that one behind its wire, then each row
-// that the links lead to under p, its own list behind what is made already. A sink's list is made here, so that only other rows recurse.
+// that the links lead to under p, its own list after what is made already. A sink's list is made here, so that only other rows recurse.
 pub fn below(
     rows: &[u32],
     due: &[i64],

@@ -5,13 +5,13 @@ ghost use Prim.Native.Nat.{_+_, _-_, _≤_, _<_};
 ghost use lib.ListN.{length, getD};
 ghost use Rattle.rules.specs.Quantities.{mostOhms, rowsRoom, workRoom};
 ghost use Rattle.rules.specs.Net.{wireOf};
-ghost use Rattle.laws.specs.Joining.{join};
+ghost use Rattle.rooms.specs.Links.{sitesAt, linksRoom};
+ghost use Rattle.laws.specs.Joining.{joinMarks};
 ghost use Rattle.laws.specs.Steps.{merge};
 ghost use Rattle.laws.specs.Moves.{wireStep};
 ghost use Rattle.laws.specs.Room.{HasRoom};
 ghost use Rattle.laws.specs.Walk.{seenAt};
 ghost use Rattle.laws.specs.Tabled.{rowAt, rowsFrom, repeatersFrom};
-ghost use Rattle.rows.specs.Links.{linksRoom, sitesAt};
 ghost use Rattle.columns.specs.Parts.{part};
 ghost use Rattle.columns.specs.Run.{run};
 ghost use Rattle.columns.specs.Made.{Room, Gives};
@@ -58,7 +58,7 @@ pub fn hang(
     requires { ⌜ Room (now loads) (now times) (now words) ⌝ }
     requires { ⌜ rowAt (now rows) (now due) row .resistance .0 ≤ mostOhms ⌝ }
     requires { ⌜ Hang (run (now loads) (now times) (now words)) at m n (wireOf (rowAt (now rows) (now due) row)) ⌝ }
-    ensures { λ len. ⌜ Gives (run (now (loads .entry)) (now (times .entry)) (now (words .entry))) (run (now (loads .exit)) (now (times .exit)) (now (words .exit))) at len (merge join (wireStep (wireOf (rowAt (now (rows .entry)) (now (due .entry)) row)) (part (at + m) (at + m + n) (run (now (loads .entry)) (now (times .entry)) (now (words .entry))))) (part at (at + m) (run (now (loads .entry)) (now (times .entry)) (now (words .entry))))) ⌝ }
+    ensures { λ len. ⌜ Gives (run (now (loads .entry)) (now (times .entry)) (now (words .entry))) (run (now (loads .exit)) (now (times .exit)) (now (words .exit))) at len (merge joinMarks (wireStep (wireOf (rowAt (now (rows .entry)) (now (due .entry)) row)) (part (at + m) (at + m + n) (run (now (loads .entry)) (now (times .entry)) (now (words .entry))))) (part at (at + m) (run (now (loads .entry)) (now (times .entry)) (now (words .entry))))) ⌝ }
 {
     let k = wire_row(rows, due, loads, times, words, row, at + m, n);
     branches::join_lists(loads, times, words, at, m, k)

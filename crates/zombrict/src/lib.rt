@@ -1,10 +1,12 @@
 // The static library: each entry under a name of its own for C and Rust, on numbers and slices only. include/zombrict.h says what each
 // call is lent and answers.
-mod texts;
+ghost use Rattle.rules.specs.Tables.{tablesOf, countsOf, tableEntries};
+ghost use Rattle.rules.specs.Areas.{columnsOf, lentOf, columns, planAreas, listAreas};
+ghost use Rattle.rules.specs.Promises.{tabled};
+ghost use Rattle.rules.specs.Calls.{lending, ReadCall, CheckCall, SlackCall, PlanCall, ListCall};
+ghost use Rattle.laws.specs.Picked.{Picks};
 
-ghost use Rattle.net.specs.TableSteps.{tablesOf, countsOf};
-ghost use Rattle.chosen.specs.Lent.{columnsOf, lentOf};
-ghost use Rattle.zombrict.specs.Calls.{ReadCall, CheckCall, SlackCall, PlanCall, ListCall};
+mod texts;
 
 // A net as text, read into the lent tables. The values answered are the counts of types and rows.
 #[no_mangle]
@@ -15,7 +17,7 @@ pub extern "C" fn zombrict_read(
     due: &mut [i64],
     answer: &mut [i64],
 ) -> u32
-    ensures { λ r. ⌜ ReadCall (now (text .entry)) (tablesOf (now (types .entry)) (now (rows .entry)) (now (due .entry))) (tablesOf (now (types .exit)) (now (rows .exit)) (now (due .exit))) (now (answer .entry)) (now (answer .exit)) r ⌝ }
+    ensures { λ r. ⌜ ReadCall (now (text .entry)) (lending (tablesOf (now (types .entry)) (now (rows .entry)) (now (due .entry))) (now (answer .entry))) r (lending (tablesOf (now (types .exit)) (now (rows .exit)) (now (due .exit))) (now (answer .exit))) ⌝ }
 {
     if answer.len() < answers::room() {
         return answers::short();
@@ -34,7 +36,7 @@ pub extern "C" fn zombrict_check(
     row_count: usize,
     answer: &mut [i64],
 ) -> u32
-    ensures { λ r. ⌜ CheckCall (tablesOf (now (types .entry)) (now (rows .entry)) (now (due .entry))) (countsOf «type_count» «row_count») (now (answer .entry)) (now (answer .exit)) r ⌝ }
+    ensures { λ r. ⌜ CheckCall (tabled (tablesOf (now (types .entry)) (now (rows .entry)) (now (due .entry))) (countsOf «type_count» «row_count»)) (lending tt (now (answer .entry))) r (lending tt (now (answer .exit))) ⌝ }
 {
     if answer.len() < answers::room() {
         return answers::short();
@@ -54,7 +56,7 @@ pub extern "C" fn zombrict_slack(
     placement: &[u64],
     answer: &mut [i64],
 ) -> u32
-    ensures { λ r. ⌜ SlackCall (tablesOf (now (types .entry)) (now (rows .entry)) (now (due .entry))) (countsOf «type_count» «row_count») (now (placement .entry)) (now (answer .entry)) (now (answer .exit)) r ⌝ }
+    ensures { λ r. ⌜ SlackCall (tabled (tablesOf (now (types .entry)) (now (rows .entry)) (now (due .entry))) (countsOf «type_count» «row_count»)) (now (placement .entry)) (lending tt (now (answer .entry))) r (lending tt (now (answer .exit))) ⌝ }
 {
     if answer.len() < answers::room() {
         return answers::short();
@@ -77,7 +79,8 @@ pub extern "C" fn zombrict_plan(
     words: &mut [u64],
     answer: &mut [i64],
 ) -> u32
-    ensures { λ r. ⌜ PlanCall (tablesOf (now (types .entry)) (now (rows .entry)) (now (due .entry))) (countsOf «type_count» «row_count») (now (placement .entry)) (now (placement .exit)) (columnsOf (now (loads .entry)) (now (times .entry)) (now (words .entry))) (columnsOf (now (loads .exit)) (now (times .exit)) (now (words .exit))) (now (answer .entry)) (now (answer .exit)) r ⌝ }
+    ensures planned { λ r. ⌜ PlanCall columns (tabled (tablesOf (now (types .entry)) (now (rows .entry)) (now (due .entry))) (countsOf «type_count» «row_count»)) (lending (planAreas (now (placement .entry)) (columnsOf (now (loads .entry)) (now (times .entry)) (now (words .entry)))) (now (answer .entry))) r (lending (planAreas (now (placement .exit)) (columnsOf (now (loads .exit)) (now (times .exit)) (now (words .exit)))) (now (answer .exit))) ⌝ }
+    ensures picked { λ r. ⌜ Picks (tableEntries (tablesOf (now (types .entry)) (now (rows .entry)) (now (due .entry))) (countsOf «type_count» «row_count»)) (now (placement .entry)) (now (placement .exit)) r ⌝ }
 {
     if answer.len() < answers::room() {
         return answers::short();
@@ -112,7 +115,7 @@ pub extern "C" fn zombrict_list(
     words: &mut [u64],
     answer: &mut [i64],
 ) -> u32
-    ensures { λ r. ⌜ ListCall (tablesOf (now (types .entry)) (now (rows .entry)) (now (due .entry))) (countsOf «type_count» «row_count») row (lentOf (now («list_loads» .entry)) (now («list_times» .entry))) (lentOf (now («list_loads» .exit)) (now («list_times» .exit))) (columnsOf (now (loads .entry)) (now (times .entry)) (now (words .entry))) (columnsOf (now (loads .exit)) (now (times .exit)) (now (words .exit))) (now (answer .entry)) (now (answer .exit)) r ⌝ }
+    ensures { λ r. ⌜ ListCall columns (tabled (tablesOf (now (types .entry)) (now (rows .entry)) (now (due .entry))) (countsOf «type_count» «row_count»)) row (lending (listAreas (lentOf (now («list_loads» .entry)) (now («list_times» .entry))) (columnsOf (now (loads .entry)) (now (times .entry)) (now (words .entry)))) (now (answer .entry))) r (lending (listAreas (lentOf (now («list_loads» .exit)) (now («list_times» .exit))) (columnsOf (now (loads .exit)) (now (times .exit)) (now (words .exit)))) (now (answer .exit))) ⌝ }
 {
     if answer.len() < answers::room() {
         return answers::short();

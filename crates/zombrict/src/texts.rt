@@ -1,30 +1,28 @@
-// The entries for a net as text. Tables and work area are the call's own and stand on the stack, some 45,000 bytes.
+// The entries for a net as text. Tables and work area are the call's own and stand on the stack, some 42,000 bytes.
 use rooms::PLACEMENT_ROOM;
 use rooms::ROWS_AREA;
 use rooms::ROWS_ROOM;
 use rooms::TYPES_AREA;
 use rooms::WORDS_AREA;
 use rooms::WORK_ROOM;
+use rooms::wide;
 use rules::Listing;
 use rules::Planning;
 use rules::Reading;
 use rules::Refusal;
 use rules::Slacking;
-ghost use mathlib.Core.Path.{_≡_};
-ghost use Rattle.net.specs.TableSteps.{tablesOf};
-ghost use Rattle.chosen.specs.Lent.{lentOf};
-ghost use Rattle.zombrict.specs.Texts.{SlackRead, PlanRead, ListRead, CheckTextCall, SlackTextCall, PlanTextCall, ListTextCall};
-
-fn wide(x: u32) -> usize
-    ensures { λ r. ⌜ r ≡ x ⌝ }
-{
-    x as usize
-}
+ghost use Rattle.rules.specs.Tables.{tablesOf};
+ghost use Rattle.rules.specs.Text.{textEntries};
+ghost use Rattle.rules.specs.Areas.{lentOf, unlent, planAreas, listAreas};
+ghost use Rattle.rules.specs.Promises.{texted};
+ghost use Rattle.rules.specs.Calls.{lending, CountCall, SlackCall, PlanCall, ListCall};
+ghost use Rattle.laws.specs.Picked.{Picks};
+ghost use Rattle.zombrict.specs.Texts.{SlackRead, PlanRead, PickRead, ListRead};
 
 // A net as text, checked. The values answered are the counts of types and rows.
 #[no_mangle]
 pub extern "C" fn zombrict_check_text(text: &[u8], answer: &mut [i64]) -> u32
-    ensures { λ r. ⌜ CheckTextCall (now (text .entry)) (now (answer .entry)) (now (answer .exit)) r ⌝ }
+    ensures { λ r. ⌜ CountCall (texted (now (text .entry))) (lending tt (now (answer .entry))) r (lending tt (now (answer .exit))) ⌝ }
 {
     if answer.len() < answers::room() {
         return answers::short();
@@ -48,7 +46,7 @@ fn slack_read(
     match read {
         Reading::Refused(r) => Slacking::Refused(r),
         Reading::Read { types: t, rows: n } => {
-            slack::slack_of(types, rows, due, wide(t), wide(n), placement)
+            slack::slack_of(types, rows, due, wide::count(t), wide::count(n), placement)
         }
     }
 }
@@ -56,7 +54,7 @@ fn slack_read(
 // The slack of a placement on a net given as text.
 #[no_mangle]
 pub extern "C" fn zombrict_slack_text(text: &[u8], placement: &[u64], answer: &mut [i64]) -> u32
-    ensures { λ r. ⌜ SlackTextCall (now (text .entry)) (now (placement .entry)) (now (answer .entry)) (now (answer .exit)) r ⌝ }
+    ensures { λ r. ⌜ SlackCall (texted (now (text .entry))) (now (placement .entry)) (lending tt (now (answer .entry))) r (lending tt (now (answer .exit))) ⌝ }
 {
     if answer.len() < answers::room() {
         return answers::short();
@@ -79,7 +77,8 @@ fn plan_read(
     due: &[i64],
     placement: &mut [u64],
 ) -> Planning
-    ensures { λ r. ⌜ PlanRead read (tablesOf (now (types .entry)) (now (rows .entry)) (now (due .entry))) (now (placement .entry)) r (now (placement .exit)) ⌝ }
+    ensures planned { λ r. ⌜ PlanRead read (tablesOf (now (types .entry)) (now (rows .entry)) (now (due .entry))) (now (placement .entry)) r (now (placement .exit)) ⌝ }
+    ensures picked { λ r. ⌜ PickRead read (tablesOf (now (types .entry)) (now (rows .entry)) (now (due .entry))) (now (placement .entry)) (now (placement .exit)) r ⌝ }
 {
     match read {
         Reading::Refused(r) => Planning::Refused(r),
@@ -91,8 +90,8 @@ fn plan_read(
                 types,
                 rows,
                 due,
-                wide(t),
-                wide(n),
+                wide::count(t),
+                wide::count(n),
                 placement,
                 &mut loads,
                 &mut times,
@@ -105,7 +104,8 @@ fn plan_read(
 // A placement of greatest slack for a net given as text.
 #[no_mangle]
 pub extern "C" fn zombrict_plan_text(text: &[u8], placement: &mut [u64], answer: &mut [i64]) -> u32
-    ensures { λ r. ⌜ PlanTextCall (now (text .entry)) (now (placement .entry)) (now (placement .exit)) (now (answer .entry)) (now (answer .exit)) r ⌝ }
+    ensures planned { λ r. ⌜ PlanCall unlent (texted (now (text .entry))) (lending (planAreas (now (placement .entry)) tt) (now (answer .entry))) r (lending (planAreas (now (placement .exit)) tt) (now (answer .exit))) ⌝ }
+    ensures picked { λ r. ⌜ Picks (textEntries (now (text .entry))) (now (placement .entry)) (now (placement .exit)) r ⌝ }
 {
     if answer.len() < answers::room() {
         return answers::short();
@@ -142,8 +142,8 @@ fn list_read(
                 types,
                 rows,
                 due,
-                wide(t),
-                wide(n),
+                wide::count(t),
+                wide::count(n),
                 row,
                 list_loads,
                 list_times,
@@ -164,7 +164,7 @@ pub extern "C" fn zombrict_list_text(
     list_times: &mut [i64],
     answer: &mut [i64],
 ) -> u32
-    ensures { λ r. ⌜ ListTextCall (now (text .entry)) row (lentOf (now («list_loads» .entry)) (now («list_times» .entry))) (lentOf (now («list_loads» .exit)) (now («list_times» .exit))) (now (answer .entry)) (now (answer .exit)) r ⌝ }
+    ensures { λ r. ⌜ ListCall unlent (texted (now (text .entry))) row (lending (listAreas (lentOf (now («list_loads» .entry)) (now («list_times» .entry))) tt) (now (answer .entry))) r (lending (listAreas (lentOf (now («list_loads» .exit)) (now («list_times» .exit))) tt) (now (answer .exit))) ⌝ }
 {
     if answer.len() < answers::room() {
         return answers::short();

@@ -74,15 +74,43 @@ fn sets() -> Vec<Set> {
         Set { name: "largest, mixed order", nets: drawn(random, 50, full(Long, Mixed)) },
         Set { name: "chain of 255", nets: drawn(random, 50, full(Chain, DepthFirst)) },
         Set { name: "star of 255", nets: drawn(random, 50, full(Star, DepthFirst)) },
-        Set { name: "longest lists", nets: vec![longest_lists()] },
+        Set { name: "longest lists", nets: vec![longest_lists(false)] },
+        Set { name: "longest lists, reversed", nets: vec![longest_lists(true)] },
+        Set { name: "longest, chain and star", nets: vec![chain_and_star()] },
     ]
 }
 
-/// Hardly a pair is beaten here, so the lists reach their 257.
-fn longest_lists() -> TableWords {
+/// Hardly a pair is beaten here, so the lists reach their 257. It is a star of 64 sinks with sites and
+/// 191 without, and its rows may stand in any order: reversed, those without come first, and planners
+/// that take later rows before earlier ones join each of them with the longest list.
+fn longest_lists(reversed: bool) -> TableWords {
     let case = zombrict::cases::print::plan_cases().find(|case| case.name == "longest-list");
     let text = zombrict::recipe::make(case.expect("a fixed case").recipe);
-    zombrict::Net::read(&text).expect("a good net").tables()
+    let text = String::from_utf8(text).expect("plain text");
+    let (mut rows, types): (Vec<&str>, Vec<&str>) =
+        text.split_inclusive('\n').partition(|line| line.starts_with('S'));
+    if reversed {
+        rows.reverse();
+    }
+    let text = types.concat() + &rows.concat();
+    zombrict::Net::read(text.as_bytes()).expect("a good net").tables()
+}
+
+/// The slowest that is known: a chain of 64 sites, whose list grows to 257 from the bottom up, and 191
+/// sinks beside it, each joined with that list.
+fn chain_and_star() -> TableWords {
+    let types = [(0, 400_000_000), (64, 300_000_000), (128, 200_000_000), (192, 100_000_000)];
+    let mut text = String::new();
+    for (input, own) in types {
+        text += &format!("T\t{input}\t1000\t{own}\n");
+    }
+    text += "D\t1\n";
+    for row in 1..64 {
+        text += &format!("W\t{}\t0\t1\t1\n", row - 1);
+    }
+    text += "S\t63\t0\t1\t1\t1000\t1000000000\n";
+    text += &"S\t0\t0\t0\t0\t1\t1000000000000\n".repeat(191);
+    zombrict::Net::read(text.as_bytes()).expect("a good net").tables()
 }
 
 /// What a planner is lent: a placement, and a work area as a run of records or as columns.

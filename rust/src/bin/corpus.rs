@@ -1,6 +1,6 @@
 //! Writes seeded texts, good and damaged, and what the planning program has to answer, for a
 //! program to be tested from outside: `corpus DIRECTORY COUNT [SEED]` writes N.net and N.out.
-//! Of N.out the lines `slack`, `load` and `refused` are settled; `buffer` lines are one placement.
+//! All of N.out is settled: of several placements as good as another it has the one returned.
 
 use std::path::Path;
 use zombrict::random::{damage_text, Random, Sketch};

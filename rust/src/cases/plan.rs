@@ -154,20 +154,33 @@ pub const TIES: &[PlanCase] = &[
         recipe: r#""T\t5\t0\t30\nT\t5\t0\t20\nT\t5\t1\t10\nD\t9\nS\t0\t1\t1\t1\t20\t100\n""#,
         asked: &[(List(1), "5 80 20 100", Hand), (List(0), "6 74 21 79", Hand), (Plan, "slack 20 load 6 buffers 1 2", Hand)],
     },
+    // Four types alike: the lowest stays wherever one is placed.
     PlanCase {
         name: "equal-types",
         recipe: r#""T\t3\t2\t5\nT\t3\t2\t5\nT\t3\t2\t5\nT\t3\t2\t5\nD\t7\nW\t0\t2\t2\t1\nS\t1\t2\t2\t1\t9\t100\nS\t1\t2\t2\t1\t9\t100\n""#,
-        asked: &[(Plan, "", Reference), (Lists, "", Reference)],
+        asked: &[(Plan, "slack -3 load 5 buffers 1 1 2 1 3 1", Hand), (Lists, "", Reference)],
     },
+    // A repeater would show just what the pin does: there is none.
     PlanCase {
         name: "type-equal-to-pin",
         recipe: r#""T\t8\t0\t0\nD\t7\nS\t0\t2\t2\t1\t8\t100\n""#,
-        asked: &[(Plan, "slack 10 load 10", Hand), (List(1), "8 100", Hand)],
+        asked: &[(Plan, "slack 10 load 10 buffers", Hand), (List(1), "8 100", Hand)],
+    },
+    // Row 2 keeps (2, 1000) with a repeater alone; row 1's repeater would do without it.
+    PlanCase {
+        name: "needless-further-up",
+        recipe: r#""T\t2\t0\t0\nD\t1\nW\t0\t0\t0\t1\nS\t1\t0\t10\t1\t5\t1000\n""#,
+        asked: &[
+            (List(2), "2 1000", Hand),
+            (List(1), "2 1000", Hand),
+            (Plan, "slack 998 load 2 buffers 1 1 2 1", Hand),
+            (Slack([1, 0, 0, 0]), "slack 998 load 2", Hand),
+        ],
     },
     PlanCase {
         name: "all-zero",
         recipe: r#""T\t0\t0\t0\nD\t0\nW\t0\t0\t0\t1\nS\t1\t0\t0\t1\t0\t0\nS\t1\t0\t0\t1\t0\t0\n""#,
-        asked: &[(Plan, "slack 0 load 0", Hand), (List(0), "0 0", Hand), (List(1), "0 0", Hand), (List(3), "0 0", Hand)],
+        asked: &[(Plan, "slack 0 load 0 buffers", Hand), (List(0), "0 0", Hand), (List(1), "0 0", Hand), (List(3), "0 0", Hand)],
     },
     PlanCase {
         name: "equal-times-at-branch",

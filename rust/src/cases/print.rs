@@ -4,10 +4,7 @@ use super::{plan, read_tables, read_text, Ask, By, PlanCase, TableCase, TextCase
 use crate::entries::{Entries, TableWords};
 use crate::net::{Net, Placement};
 use crate::recipe;
-use crate::reference::{self, search, Pair, Reference};
-
-/// Up to so many placements are gone through to see whether the best is the only one.
-const SEARCHED: usize = 5_000;
+use crate::reference::{self, Pair, Reference};
 
 pub fn text_cases() -> impl Iterator<Item = &'static TextCase> {
     read_text::ALL.iter().flat_map(|group| group.iter())
@@ -79,26 +76,11 @@ pub fn answer_plan(case: &PlanCase) -> Vec<(String, String, By)> {
 
 fn plan_words(net: &Net) -> String {
     let best = reference::plan(net);
-    let mut words = slack_and_load(best.pair);
-    if only_placement(net, best.pair) {
-        words += " buffers";
-        for (row, mark) in best.placement.repeaters(net) {
-            words += &format!(" {row} {mark}");
-        }
+    let mut words = slack_and_load(best.pair) + " buffers";
+    for (row, mark) in best.placement.repeaters(net) {
+        words += &format!(" {row} {mark}");
     }
     words
-}
-
-/// Whether one placement alone has this slack and load; not said of nets too large to go through.
-pub fn only_placement(net: &Net, best: Pair) -> bool {
-    let marks = net.types().len() + 1;
-    let count = net.site_rows().iter().try_fold(1usize, |count, _| count.checked_mul(marks));
-    count.is_some_and(|count| count <= SEARCHED)
-        && search::placements(net)
-            .into_iter()
-            .filter(|&placement| reference::slack_of(net, placement) == Ok(best))
-            .count()
-            == 1
 }
 
 fn list_words(net: &Net, row: usize) -> String {
@@ -196,10 +178,10 @@ const PLAN_HEADER: &str = "\
 #
 # case NAME
 # text RECIPE                     as in read.txt
-# plan: slack S load L [buffers]  the greatest slack and its least load on the driver; where only
-#                                 one placement has them, its repeaters, row and type of each
+# plan: slack S load L buffers .. the greatest slack, its least load on the driver, and the
+#                                 repeaters of the placement returned, row and type of each
 # list ROW: LOAD TIME ...         the unbeaten pairs at the row, loads rising
 # slack W W W W: slack S load L   of the placement of these four words
 #
-# An answer may be `refused NUMBER PLACE`. Behind ` ; ` stands the source, as in read.txt.
+# An answer may be `refused NUMBER PLACE`. After ` ; ` stands the source, as in read.txt.
 ";

@@ -220,16 +220,14 @@ fn plan_case(script: &mut Script, case: &PlanCase) {
     }
 }
 
-/// The plan, that its placement has its slack and load, and the placement where there is one alone.
+/// The plan, that its placement has its slack and load, and the placement.
 fn planned(script: &mut Script, net: &Net, tables: &TableWords) {
     plan(script, tables, ROOM);
     let best = reference::plan(net);
     script.ask("planned", &pair(best.pair.time, best.pair.load as u32));
-    if print::only_placement(net, best.pair) {
-        let Placement(marks) = best.placement;
-        let marks: Vec<String> = marks.iter().map(|word| format!("{word:016x}")).collect();
-        script.ask("marks", &marks.join(" "));
-    }
+    let Placement(marks) = best.placement;
+    let marks: Vec<String> = marks.iter().map(|word| format!("{word:016x}")).collect();
+    script.ask("marks", &marks.join(" "));
 }
 
 /// The entries' own areas shorter than their room, at it and longer, on a net that is accepted and

@@ -1,4 +1,4 @@
-//! The reference behind the public entries: what each lent area holds afterwards.
+//! The reference as the public entries: what each lent area holds afterwards.
 
 use super::{check, legal, list_at, plan, read, slack_of};
 use crate::entries::{Candidate, Columns, Counts, Entries, Planned, Records, Tables};

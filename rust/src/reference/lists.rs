@@ -4,14 +4,15 @@
 use super::Pair;
 use crate::net::{Kind, Net, Placement, Row};
 
-/// A pair with one placement that reaches it.
+/// A pair with the placement that is kept for it.
 #[derive(Clone, Copy, Debug, PartialEq, Eq)]
 pub struct Choice {
     pub pair: Pair,
     pub placement: Placement,
 }
 
-/// Keeps the unbeaten, each pair once, loads and times rising.
+/// Keeps the unbeaten, each pair once, loads and times rising. Of equal pairs the first that was
+/// handed in stays: the sort is stable.
 pub fn thin(mut choices: Vec<Choice>) -> Vec<Choice> {
     choices.sort_by_key(|choice| (choice.pair.load, -choice.pair.time));
     let mut kept: Vec<Choice> = Vec::new();
@@ -65,6 +66,8 @@ pub fn lists(net: &Net) -> Vec<Vec<Choice>> {
 }
 
 /// The row's repeater drives what hangs under the row: from each driven choice one for each type.
+/// No repeater comes before one, the lower type before the higher, the lighter driven before the
+/// heavier; so equal pairs go to what stands.
 fn at_site(net: &Net, site: Option<usize>, driven: Vec<Choice>) -> Vec<Choice> {
     let Some(site) = site else { return driven };
     let mut all = driven.clone();
@@ -94,7 +97,7 @@ pub fn list_at(net: &Net, row: usize) -> Vec<Pair> {
     lists(net)[row].iter().map(|choice| choice.pair).collect()
 }
 
-/// The greatest slack, the least load on the driver that has it, and a placement that does.
+/// The greatest slack, the least load on the driver that has it, and the placement kept for them.
 pub fn plan(net: &Net) -> Choice {
     let resistance = i64::from(net.rows()[0].resistance);
     let at_driver = lists(net).swap_remove(0).into_iter().map(|choice| {

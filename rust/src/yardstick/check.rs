@@ -25,7 +25,7 @@ impl Tree {
         self.put_in_order(tables)
     }
 
-    /// The rows of one parent stand behind each other, the last one's end being the parent's.
+    /// The rows of one parent stand one after the other, the last one's end being the parent's.
     pub fn has_later_sibling(&self, row: usize, parent: usize) -> bool {
         self.ends[row] != self.ends[parent]
     }

@@ -12,7 +12,8 @@ pub struct Repeater {
     mark: u64,
 }
 
-/// The types with their input loads rising, so that what they offer comes in the order of a list.
+/// The types with their input loads rising, so that what they offer comes in the order of a list;
+/// of equal loads the lower type first, so that it stays where both offer the same.
 pub fn by_load(tables: &Tables) -> ([Repeater; room::TYPES], usize) {
     let mut repeaters = [Repeater::default(); room::TYPES];
     let count = tables.type_count;
@@ -25,7 +26,7 @@ pub fn by_load(tables: &Tables) -> ([Repeater; room::TYPES], usize) {
             mark: index as u64 + 1,
         };
     }
-    repeaters[..count].sort_unstable_by_key(|repeater| repeater.input_load);
+    repeaters[..count].sort_unstable_by_key(|repeater| (repeater.input_load, repeater.mark));
     (repeaters, count)
 }
 
@@ -107,7 +108,7 @@ fn offer(list: &[Candidate], repeater: &Repeater) -> Offer {
     Offer { seen, mark: repeater.mark }
 }
 
-/// Moves the list up once by the number of offers; behind the last offer it then stands where it
+/// Moves the list up once by the number of offers; after the last offer it then stands where it
 /// belongs, unless something was beaten.
 fn put_among(
     work: &mut [Candidate],
@@ -145,7 +146,8 @@ fn put_among(
     to + (end - from)
 }
 
-/// Whether a candidate of the list stands before an offer, or beats it at the same load.
+/// Whether a candidate of the list stands before an offer, or covers it at the same load: what
+/// stands stays.
 fn comes_first(listed: &Candidate, offer: &Candidate) -> bool {
     listed.load < offer.load || listed.load == offer.load && listed.time >= offer.time
 }

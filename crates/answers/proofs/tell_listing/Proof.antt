@@ -10,8 +10,8 @@ use Rattle.answers.proofs.tell_listing.Tie as tie
 enum-known-a : tie.Need-enum-known-a
 enum-known-a c = search needs
 
-wide-requires : tie.Need-wide-requires
-wide-requires c κs = search needs
+word-requires : tie.Need-word-requires
+word-requires c κs = search needs
 
 tell-requires : tie.Need-tell-requires
 tell-requires c κs = search needs
@@ -27,7 +27,7 @@ same-length c = search needs
 
 returns : tie.Need-returns
 unfolding listFigures
-returns c = crossed-done _ _ _ (ap listFigures (c .before .before .before .before .before .a .given .1)) refl (c .before .tell .ensures .0) (words-are _ refl (bits-back _ (c .before .before .wide .ok) ∙ c .before .before .wide .ensures) refl (c .before .tell .ensures .1))
+returns c = crossed-done _ _ _ (ap listFigures (c .before .before .before .before .before .a .given .1)) refl (c .before .tell .ensures .0) (words-are _ refl (bits-back _ (c .before .before .word .ok) ∙ c .before .before .word .ensures) refl (c .before .tell .ensures .1))
 
 same-length-2 : tie.Need-same-length-2
 same-length-2 c = search needs
@@ -41,7 +41,7 @@ tell-listing-spec =
     tie.close
     (tie.spec
     enum-known-a
-    wide-requires
+    word-requires
     tell-requires
     enum-known-a-2
     tell-refusal-requires

@@ -10,11 +10,11 @@ use Rattle.answers.proofs.tell_reading.Tie as tie
 enum-known-a : tie.Need-enum-known-a
 enum-known-a c = search needs
 
-wide-requires : tie.Need-wide-requires
-wide-requires c κs = search needs
+word-requires : tie.Need-word-requires
+word-requires c κs = search needs
 
-wide-requires-2 : tie.Need-wide-requires-2
-wide-requires-2 c κs = search needs
+word-requires-2 : tie.Need-word-requires-2
+word-requires-2 c κs = search needs
 
 tell-requires : tie.Need-tell-requires
 tell-requires c κs = search needs
@@ -30,7 +30,7 @@ same-length c = search needs
 
 returns : tie.Need-returns
 unfolding readFigures noCounts
-returns c = crossed-done _ _ _ (ap readFigures (c .before .before .before .before .before .before .a .given .1)) refl (c .before .tell .ensures .0) (words-are _ refl (bits-back _ (c .before .before .before .wide .ok) ∙ c .before .before .before .wide .ensures) (bits-back _ (c .before .before .wide2 .ok) ∙ c .before .before .wide2 .ensures) (c .before .tell .ensures .1))
+returns c = crossed-done _ _ _ (ap readFigures (c .before .before .before .before .before .before .a .given .1)) refl (c .before .tell .ensures .0) (words-are _ refl (bits-back _ (c .before .before .before .word .ok) ∙ c .before .before .before .word .ensures) (bits-back _ (c .before .before .word2 .ok) ∙ c .before .before .word2 .ensures) (c .before .tell .ensures .1))
 
 same-length-2 : tie.Need-same-length-2
 same-length-2 c = search needs
@@ -44,8 +44,8 @@ tell-reading-spec =
     tie.close
     (tie.spec
     enum-known-a
-    wide-requires
-    wide-requires-2
+    word-requires
+    word-requires-2
     tell-requires
     enum-known-a-2
     tell-refusal-requires

@@ -11,8 +11,8 @@ use Rattle.answers.proofs.tell_refusal.Tie as tie
 place-of-requires : tie.Need-place-of-requires
 place-of-requires c κs = search needs
 
-wide-requires : tie.Need-wide-requires
-wide-requires c κs = search needs
+word-requires : tie.Need-word-requires
+word-requires c κs = search needs
 
 put-requires : tie.Need-put-requires
 put-requires c κs = search needs
@@ -24,9 +24,9 @@ same-length : tie.Need-same-length
 same-length c = search needs
 
 returns : tie.Need-returns
-returns c = (c .number-of .ensures, words-are _ (bits-back _ (c .before .before .before .wide .ok) ∙ c .before .before .before .wide .ensures ∙ ap (λ (k : ℕ). pos k) (c .before .before .before .before .place-of .ensures)) refl refl (c .before .before .put .ensures))
+returns c = (c .number-of .ensures, words-are _ (bits-back _ (c .before .before .before .word .ok) ∙ c .before .before .before .word .ensures ∙ ap (λ (k : ℕ). pos k) (c .before .before .before .before .place-of .ensures)) refl refl (c .before .before .put .ensures))
 
 pub tell-refusal-spec : {M : Type 1} → statement M
 tell-refusal-spec =
     tie.close
-    (tie.spec place-of-requires wide-requires put-requires number-of-requires same-length returns)
+    (tie.spec place-of-requires word-requires put-requires number-of-requires same-length returns)

@@ -19,7 +19,7 @@ sub-count c = search needs
 
 move-down-requires : tie.Need-move-down-requires
 move-down-requires c κs =
-    let m = c .before .before .before .before .before .before .before .before .merge-lists .ensures in let p = c .before .before .before .before .before .before .before .before .before .before .before .before .before .before .pre .1 in (record { loads = omega arith; times = omega arith; words = omega arith }, (omega arith, omega (arith, m .top, m .behind, p .place)))
+    let m = c .before .before .before .before .before .before .before .before .merge-lists .ensures in let p = c .before .before .before .before .before .before .before .before .before .before .before .before .before .before .pre .1 in (record { loads = omega arith; times = omega arith; words = omega arith }, (omega arith, omega (arith, m .top, m .past, p .place)))
 
 same-length : tie.Need-same-length
 same-length c = search needs

@@ -38,7 +38,7 @@ joined-at-requires c κs =
     let l = c .before .before .before .before .before .loop in
     let t = l .inv .4 in
     let k : l .j < s .args .at + s .args .m = omega (arith, ltb-true, c .before .before .before .if1 .taken) in
-    (record { loads = omega arith; times = omega arith; words = omega arith }, ((omega (arith, t .slow, t .behind, s .pre .1 .place), (omega (arith, t .slow, t .behind, s .pre .1 .place), omega (arith, t .slow, s .pre .1 .place))), joining-fit _ _ _ _ _ _ _ _ t (omega arith) k))
+    (record { loads = omega arith; times = omega arith; words = omega arith }, ((omega (arith, t .slow, t .past, s .pre .1 .place), (omega (arith, t .slow, t .past, s .pre .1 .place), omega (arith, t .slow, s .pre .1 .place))), joining-fit _ _ _ _ _ _ _ _ t (omega arith) k))
 
 later-at-requires : tie.Need-later-at-requires Inv-loop μ-loop
 later-at-requires c κs =

@@ -1,9 +1,9 @@
 -- `chosen::list_in` meets its contract. Assumes nothing.
 use Rattle.chosen.specs.Promised.{Exact, exact-room, made-few, list-of, zeroed}
-use Rattle.chosen.specs.Lent.{lentOf}
 use Rattle.columns.specs.Made.{room-run}
 use Rattle.columns.specs.Run.{run}
 use Rattle.rules.specs.Quantities.{workRoom}
+use Rattle.rules.specs.Areas.{lentOf}
 use native.Mathlib.Omega.{arith}
 use mathlib.Core.Path.{_≡_, refl, _∙_}
 use mathlib.Core.List.{_++_}

@@ -1,5 +1,5 @@
 -- `chosen::plan_in` meets its contract. Assumes nothing.
-use Rattle.chosen.specs.Promised.{Exact, exact-room, ready, made-stand, plan-of, zeroed}
+use Rattle.chosen.specs.Promised.{Exact, exact-room, ready, made-stand, plan-of, pick-of, zeroed}
 use Rattle.columns.specs.Made.{room-run}
 use Rattle.columns.specs.Run.{run}
 use Rattle.rows.specs.Given.{standing}
@@ -64,7 +64,7 @@ returns c =
     let some : 0 < a .n = standing (p .0) .some in
     let t = c .before .before .before .before .before .before .before .before .before .before .before .choose in
     let z = c .before .before .before .before .before .clear in
-    (plan-of (p .0) 0 some (run (a .loads .now) (a .times .now) (a .words .now)) (run (m .last .1 .1 .1 .1 .1 .0) (m .last .1 .1 .1 .1 .1 .1 .0) (m .last .1 .1 .1 .1 .1 .1 .1 .0)) long (m .result) (m .ensures) refl (a .placement .now) (t .last .1 .1 .1 .1 .1 .1 .0) (t .result .slack .0) (t .result .load .0) (t .ensures), zeroed _ _ _ (z .last .0) (z .last .1 .0) (z .last .1 .1 .0) e₁ (z .ensures .0) (z .ensures .1 .0) (z .ensures .1 .1))
+    (plan-of (p .0) 0 some (run (a .loads .now) (a .times .now) (a .words .now)) (run (m .last .1 .1 .1 .1 .1 .0) (m .last .1 .1 .1 .1 .1 .1 .0) (m .last .1 .1 .1 .1 .1 .1 .1 .0)) long (m .result) (m .ensures) refl (a .placement .now) (t .last .1 .1 .1 .1 .1 .1 .0) (t .result .slack .0) (t .result .load .0) (t .ensures), (zeroed _ _ _ (z .last .0) (z .last .1 .0) (z .last .1 .1 .0) e₁ (z .ensures .0) (z .ensures .1 .0) (z .ensures .1 .1), pick-of (p .0) 0 some (run (a .loads .now) (a .times .now) (a .words .now)) (run (m .last .1 .1 .1 .1 .1 .0) (m .last .1 .1 .1 .1 .1 .1 .0) (m .last .1 .1 .1 .1 .1 .1 .1 .0)) long (m .result) (m .ensures) refl (a .placement .now) (t .last .1 .1 .1 .1 .1 .1 .0) (t .result .slack .0) (t .result .load .0) (t .ensures)))
 
 pub plan-in-spec : {M : Type 1} → statement M
 plan-in-spec =

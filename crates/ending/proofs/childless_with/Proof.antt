@@ -5,7 +5,7 @@ use mathlib.Core.Path.{_≡_, ap}
 use native.Mathlib.Omega.{arith}
 use lib.ListN.{length, getD, length-replicate}
 use Rattle.ending.specs.Below.{FoundIn}
-use Rattle.ending.specs.BelowLaws.{From, from-end, from-back, marked-256, found-in}
+use Rattle.ending.specs.BelowLaws.{From, from-end, from-back, marked-room, found-in}
 use Rattle.ending.proofs.childless_with.Statement.{statement}
 use Rattle.ending.proofs.childless_with.Tie as tie
 
@@ -58,7 +58,7 @@ loop-again c =
     let i = l .i - 1 in
     let back : l .i ≡ i + 1 = omega arith in
     let inside : i < a .count = omega arith in (
-      (omega arith, rw (c .before .before .mark .ensures) (marked-256 (getD (a .rows .now) (6 * i + 1) 0) (l .below) (l .inv .0 .1))),
+      (omega arith, rw (c .before .before .mark .ensures) (marked-room (getD (a .rows .now) (6 * i + 1) 0) (l .below) (l .inv .0 .1))),
       (
         rw (c .before .before .mark .ensures, c .before .before .before .before .before .found-with .ensures) (from-back (a .rows .now) (a .count) (l .i) i (l .below) (l .found) back (l .inv .1 .0) (c .before .before .before .before .before .before .before .before .before .before .before .before .pre .0 .0) inside),
         rw (c .before .before .before .before .before .found-with .ensures) (found-in (getD (a .rows .now) (6 * i) 0) (getD (l .below) i 0) i (a .count) (l .found) inside (l .inv .1 .1)),

@@ -4,7 +4,7 @@ use lib.ListN.{replicate}
 use borrow.Author.Needs.{needs}
 use Rattle.rules.specs.declared.Cand.{Cand}
 use Rattle.rules.specs.Quantities.{workRoom}
-use Rattle.rules.specs.Promises.{zeros}
+use Rattle.rules.specs.Areas.{zeros}
 use Rattle.held.proofs.blank.Statement.{statement}
 use Rattle.held.proofs.blank.Tie as tie
 

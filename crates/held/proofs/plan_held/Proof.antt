@@ -50,10 +50,11 @@ use denote.Slice.{finally}
 use Rattle.rules.specs.declared.Cand.{Cand}
 use Rattle.rules.proofs.Cand as T
 use Rattle.rules.proofs.Cand.Laws as T′
-use Rattle.rules.specs.Promises.{PlanPromise, records}
-use Rattle.laws.specs.Checked.{tablesOf as netOf, countsOf}
-use Rattle.held.specs.Held.{blankRun, plan-held}
+use Rattle.rules.specs.Promises.{PlanPromise, tabled}
+use Rattle.held.specs.Held.{plan-held}
 use Rattle.rules.specs.declared.Planning.{Planning}
+use Rattle.rules.specs.Areas.{records, planAreas, blankRun}
+use Rattle.rules.specs.Tables.{tablesOf as netOf, countsOf}
 use Rattle.rules.proofs.Planning as Q
 use Rattle.rules.proofs.Planning.Laws as Q′
 use Rattle.held.proofs.HeldCalls.{Blank, to-blank, blank-says, goes-blank, gets-blank}
@@ -100,7 +101,7 @@ module _ {M : Type 1} (𝓤 : URA M) (H : Heap 𝓤) (A : Atoms 𝓤) (W : Given
   abbrev Post : Val → SProp 𝓤
   Post = walkOf 𝓤 H A f.ended stayed (f.clauses 𝓤 H A mem run) .post (((κ-types, (κ-rows, (κ-due, (κ-placement, tt)))), (q-types, (q-rows, (q-due, (q-placement, tt)))), tt, handed, machine), tt)
 
-  exits : (r : Planning) (zs-placement : List ℕ) → Is Q.the-row r (EL.vals Q.the-type Q′.the-laws r) → length zs-placement ≡ m-placement → (PlanPromise records (netOf (t-types .now) (t-rows .now) (t-due .now)) (countsOf tc rc) ys-placement blankRun r zs-placement blankRun) → ent 𝓤 (⋆ 𝓤 H A (‵ (Slice u64 b-placement o-placement κ-placement m-placement γ-placement zs-placement) ∷ ‵ (flft κ-placement q-placement) ∷ ‵ (flft κ-types q-types) ∷ ‵ (ShrSlice (named 0) κ-types u32 .own t-types (sliceVal (t-types .ptr) (length (t-types .now)) ∷ [])) ∷ ‵ (flft κ-rows q-rows) ∷ ‵ (ShrSlice (named 1) κ-rows u32 .own t-rows (sliceVal (t-rows .ptr) (length (t-rows .now)) ∷ [])) ∷ ‵ (flft κ-due q-due) ∷ ‵ (ShrSlice (named 2) κ-due i64 .own t-due (sliceVal (t-due .ptr) (length (t-due .now)) ∷ [])) ∷ [])) (Post (EL.val Q.the-type Q′.the-laws r))
+  exits : (r : Planning) (zs-placement : List ℕ) → Is Q.the-row r (EL.vals Q.the-type Q′.the-laws r) → length zs-placement ≡ m-placement → (PlanPromise records (tabled (netOf (t-types .now) (t-rows .now) (t-due .now)) (countsOf tc rc)) (planAreas ys-placement blankRun) r (planAreas zs-placement blankRun)) → ent 𝓤 (⋆ 𝓤 H A (‵ (Slice u64 b-placement o-placement κ-placement m-placement γ-placement zs-placement) ∷ ‵ (flft κ-placement q-placement) ∷ ‵ (flft κ-types q-types) ∷ ‵ (ShrSlice (named 0) κ-types u32 .own t-types (sliceVal (t-types .ptr) (length (t-types .now)) ∷ [])) ∷ ‵ (flft κ-rows q-rows) ∷ ‵ (ShrSlice (named 1) κ-rows u32 .own t-rows (sliceVal (t-rows .ptr) (length (t-rows .now)) ∷ [])) ∷ ‵ (flft κ-due q-due) ∷ ‵ (ShrSlice (named 2) κ-due i64 .own t-due (sliceVal (t-due .ptr) (length (t-due .now)) ∷ [])) ∷ [])) (Post (EL.val Q.the-type Q′.the-laws r))
   exits r zs-placement r-is len-placement is =
       qed W (‵ (Slice u64 b-placement o-placement κ-placement m-placement γ-placement zs-placement) ∷ ‵ (flft κ-placement q-placement) ∷ ‵ (flft κ-types q-types) ∷ ‵ (ShrSlice (named 0) κ-types u32 .own t-types (sliceVal (t-types .ptr) (length (t-types .now)) ∷ [])) ∷ ‵ (flft κ-rows q-rows) ∷ ‵ (ShrSlice (named 1) κ-rows u32 .own t-rows (sliceVal (t-rows .ptr) (length (t-rows .now)) ∷ [])) ∷ ‵ (flft κ-due q-due) ∷ ‵ (ShrSlice (named 2) κ-due i64 .own t-due (sliceVal (t-due .ptr) (length (t-due .now)) ∷ [])) ∷ []) ∵ suffices ! _ (ends-at 𝓤 H A f.ended stayed (f.clauses 𝓤 H A mem run) W (((κ-types, (κ-rows, (κ-due, (κ-placement, tt)))), (q-types, (q-rows, (q-due, (q-placement, tt)))), tt, handed, machine), tt) (EL.val Q.the-type Q′.the-laws r) r (tt, (tt, (tt, (tt, (tt, (zs-placement, tt)))))) (tt, (tt, (tt, (tt, (tt, (len-placement, tt))))))) $ says ! is $ nothing ! $ move ! (2 ∷ 0 ∷ []) $ join ! $ move ! (6 ∷ 0 ∷ []) $ join ! $ move ! (4 ∷ 0 ∷ []) $ join ! $ move ! (2 ∷ 0 ∷ []) $ join ! $ frame ! $ nothing ! $ move ! (1 ∷ 0 ∷ []) $ fjoin ! $ owned ! usize (Is usize) (uint-makes 𝓤 H A W w64) rc _ (refl, rc-fits) $ fjoin ! $ owned ! usize (Is usize) (uint-makes 𝓤 H A W w64) tc _ (refl, tc-fits) $ fjoin ! $ move ! (3 ∷ 0 ∷ []) $ fjoin ! $ move ! (2 ∷ 0 ∷ []) $ fjoin ! $ move ! (1 ∷ 0 ∷ []) $ fjoin ! $ frame ! $ owned ! Q.the-row (Is Q.the-row) (EL.makes Q.the-type Q′.the-plain 𝓤 H A) r _ r-is $ done !
 

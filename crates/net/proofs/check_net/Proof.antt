@@ -1,8 +1,8 @@
 -- `net::check_net` keeps its promise. Assumes nothing.
-use Rattle.net.specs.TableSteps.{tablesOf, countsOf}
 use Rattle.net.specs.CheckLaws.{promise-kept}
 use borrow.Author.Needs.{needs}
 use Rattle.net.proofs.check_net.Statement.{statement}
+use Rattle.rules.specs.Tables.{tablesOf, countsOf}
 use Rattle.net.proofs.check_net.Tie as tie
 
 check-tables-requires : tie.Need-check-tables-requires

@@ -1,10 +1,10 @@
 -- `net::check_tables` meets its contract: 7, then entry by entry. Assumes nothing.
 use mathlib.Core.List.{[]}
-use Rattle.net.specs.TableSteps.{countsOf}
 use Rattle.net.specs.Filled.{rooms-are}
 use Rattle.net.specs.CheckLaws.{short-checked, own-checked, net-checked}
 use borrow.Author.Needs.{needs}
 use Rattle.net.proofs.check_tables.Statement.{statement}
+use Rattle.rules.specs.Tables.{countsOf}
 use Rattle.net.proofs.check_tables.Tie as tie
 
 short-tables-requires : tie.Need-short-tables-requires

@@ -1,6 +1,5 @@
 -- `net::read_net` keeps its promise: 7, then the length of the text, then line by line. Assumes nothing.
-use native.Mathlib.Omega.{arith}
-use Rattle.net.specs.Filled.{short-read, long-read, lines-read, rooms-are}
+use Rattle.net.specs.Filled.{not-read, to-read, lines-read, rooms-are}
 use borrow.Author.Needs.{needs}
 use Rattle.net.proofs.read_net.Statement.{statement}
 use Rattle.net.proofs.read_net.Tie as tie
@@ -8,23 +7,26 @@ use Rattle.net.proofs.read_net.Tie as tie
 short-tables-requires : tie.Need-short-tables-requires
 short-tables-requires c κs = search needs
 
+check-text-requires : tie.Need-check-text-requires
+check-text-requires c κs = search needs
+
+enum-known-r : tie.Need-enum-known-r
+enum-known-r c = search needs
+
+enum-told : tie.Need-enum-told
+enum-told c = search needs
+
+read-through-requires : tie.Need-read-through-requires
+read-through-requires c κs =
+    let s = c .before .before .before .before .before .before .short-tables in
+    let k = c .before .before .before .before .before .check-text in
+    rooms-are (c .before .before .before .before .before .before .before .before .before .before .args .text .now) (c .before .before .before .before .before .before .before .before .before .before .args .types .now) (c .before .before .before .before .before .before .before .before .before .before .args .rows .now) (c .before .before .before .before .before .before .before .before .before .before .args .due .now) (s .result) (s .ensures) (to-read (c .before .before .before .before .before .before .before .before .before .before .args .text .now) (c .before .before .before .before .before .before .before .before .before .before .args .types .now) (c .before .before .before .before .before .before .before .before .before .before .args .rows .now) (c .before .before .before .before .before .before .before .before .before .before .args .due .now) (s .result) (k .result) (k .ensures) (c .before .before .before .enum-told .given .1) .0)
+
 returns : tie.Need-returns
-returns c = short-read (c .before .before .before .before .before .args .text .now) (c .before .before .before .before .before .args .types .now) (c .before .before .before .before .before .args .rows .now) (c .before .before .before .before .before .args .due .now) (c .before .short-tables .result) (c .before .short-tables .ensures) (c .if1 .taken)
-
-returns-2 : tie.Need-returns-2
-returns-2 c = long-read (c .before .before .before .before .before .before .args .text .now) (c .before .before .before .before .before .before .args .types .now) (c .before .before .before .before .before .before .args .rows .now) (c .before .before .before .before .before .before .args .due .now) (c .before .before .short-tables .result) (c .before .before .short-tables .ensures) (c .before .if1 .left) (c .if2 .taken)
-
-slice-aggregate-read-into : tie.Need-slice-aggregate-read-into
-slice-aggregate-read-into c = search needs
-
-slice-aggregate-read-into-2 : tie.Need-slice-aggregate-read-into-2
-slice-aggregate-read-into-2 c = search needs
-
-slice-aggregate-read-into-3 : tie.Need-slice-aggregate-read-into-3
-slice-aggregate-read-into-3 c = search needs
-
-read-into-requires : tie.Need-read-into-requires
-read-into-requires c κs = (record { types-room = omega arith; rows-room = omega arith; due-room = omega arith }, rooms-are (c .before .before .before .before .before .before .before .before .before .before .before .before .args .text .now) (c .before .before .before .before .before .before .before .before .before .before .before .before .args .types .now) (c .before .before .before .before .before .before .before .before .before .before .before .before .args .rows .now) (c .before .before .before .before .before .before .before .before .before .before .before .before .args .due .now) (c .before .before .before .before .before .before .before .before .short-tables .result) (c .before .before .before .before .before .before .before .before .short-tables .ensures) (c .before .before .before .before .before .before .before .if1 .left))
+returns c =
+    let s = c .before .before .before .before .short-tables in
+    let k = c .before .before .before .check-text in
+    not-read (c .before .before .before .before .before .before .before .before .args .text .now) (c .before .before .before .before .before .before .before .before .args .types .now) (c .before .before .before .before .before .before .before .before .args .rows .now) (c .before .before .before .before .before .before .before .before .args .due .now) (s .result) (k .result) _ (s .ensures) (k .ensures) (c .before .r .given .1)
 
 same-length : tie.Need-same-length
 same-length c = search needs
@@ -35,21 +37,12 @@ same-length-2 c = search needs
 same-length-3 : tie.Need-same-length-3
 same-length-3 c = search needs
 
-returns-3 : tie.Need-returns-3
-returns-3 c = lines-read (c .before .before .before .before .before .before .before .before .before .before .before .before .before .before .before .before .before .before .before .before .before .args .text .now) (c .before .before .before .before .before .before .before .before .before .before .before .before .before .before .before .before .before .before .before .before .before .args .types .now) (c .before .before .before .before .before .before .before .before .before .before .before .before .before .before .before .before .before .before .before .before .before .args .rows .now) (c .before .before .before .before .before .before .before .before .before .before .before .before .before .before .before .before .before .before .before .before .before .args .due .now) (c .before .before .before .before .before .before .before .before .before .before .before .before .before .before .before .before .before .short-tables .result) (c .before .before .before .before .before .before .before .before .read-into .result) _ (c .before .before .before .before .before .before .before .before .before .before .before .before .before .before .before .before .before .short-tables .ensures) (c .before .before .before .before .before .before .before .before .before .before .before .before .before .before .before .before .if1 .left) (c .before .before .before .before .before .before .before .before .before .before .before .before .before .before .before .if2 .left) (c .before .before .before .before .before .before .before .before .read-into .ensures)
+returns-2 : tie.Need-returns-2
+returns-2 c =
+    let s = c .before .before .before .before .before .before .before .before .before .before .before .before .short-tables in
+    let k = c .before .before .before .before .before .before .before .before .before .before .before .check-text in
+    let (a, l) = to-read (c .before .before .before .before .before .before .before .before .before .before .before .before .before .before .before .before .args .text .now) (c .before .before .before .before .before .before .before .before .before .before .before .before .before .before .before .before .args .types .now) (c .before .before .before .before .before .before .before .before .before .before .before .before .before .before .before .before .args .rows .now) (c .before .before .before .before .before .before .before .before .before .before .before .before .before .before .before .before .args .due .now) (s .result) (k .result) (k .ensures) (c .before .before .before .before .before .before .before .before .before .enum-told .given .1) in
+    lines-read (c .before .before .before .before .before .before .before .before .before .before .before .before .before .before .before .before .args .text .now) (c .before .before .before .before .before .before .before .before .before .before .before .before .before .before .before .before .args .types .now) (c .before .before .before .before .before .before .before .before .before .before .before .before .before .before .before .before .args .rows .now) (c .before .before .before .before .before .before .before .before .before .before .before .before .before .before .before .before .args .due .now) (s .result) (c .before .before .before .before .before .read-through .result) _ (s .ensures) a l (c .before .before .before .before .before .read-through .ensures)
 
 pub read-net-spec : {M : Type 1} → statement M
-read-net-spec =
-    tie.close
-    (tie.spec
-    short-tables-requires
-    returns
-    returns-2
-    slice-aggregate-read-into
-    slice-aggregate-read-into-2
-    slice-aggregate-read-into-3
-    read-into-requires
-    same-length
-    same-length-2
-    same-length-3
-    returns-3)
+read-net-spec = tie.close (tie.spec short-tables-requires check-text-requires enum-known-r enum-told read-through-requires returns same-length same-length-2 same-length-3 returns-2)

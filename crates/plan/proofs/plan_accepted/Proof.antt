@@ -50,7 +50,7 @@ returns c =
     let a = c .before .before .before .before .before .before .before .before .before .before .before .before .before .before .before .before .before .before .before .args in
     let p = c .before .before .before .before .before .before .before .before .before .before .before .before .before .before .before .before .before .before .before .pre in
     let t = c .before .before .before .before .before .before .before .before .before .plan-in in
-    plan-promise (p .0) (p .1 .1) (a .placement .now) (t .last .1 .1 .1 .1 .1 .0) (t .result .slack) (t .result .load) _ (p .1 .0) (t .ensures .0) (cleared-is (a .loads .now) (a .times .now) (a .words .now) (t .ensures .1) refl refl refl)
+    (plan-promise (p .0) (p .1 .1) (a .placement .now) (t .last .1 .1 .1 .1 .1 .0) (t .result .slack) (t .result .load) _ (p .1 .0) (t .ensures .0) (cleared-is (a .loads .now) (a .times .now) (a .words .now) (t .ensures .1 .0) refl refl refl), λ z. t .ensures .1 .1)
 
 pub plan-accepted-spec : {M : Type 1} → statement M
 plan-accepted-spec =

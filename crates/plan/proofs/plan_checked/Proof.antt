@@ -1,18 +1,20 @@
 -- `plan::plan_checked` meets its contract. Assumes nothing.
 use Rattle.plan.specs.Refusing.{plan-short-own, plan-short-work, plan-stopped}
 use Rattle.chosen.specs.Promised.{work-room}
-use Rattle.laws.specs.Checked.{tablesOf, countsOf, checked-stopped, checked-passed}
+use Rattle.laws.specs.Picked.{refused-picks}
+use Rattle.laws.specs.Checked.{checked-stopped, checked-passed}
 use borrow.Author.Tests.{ltb-false}
 use mathlib.Core.Path.{sym, _∙_}
 use borrow.Author.Needs.{needs}
 use Rattle.plan.proofs.plan_checked.Statement.{statement}
+use Rattle.rules.specs.Tables.{tablesOf, countsOf}
 use Rattle.plan.proofs.plan_checked.Tie as tie
 
 returns : tie.Need-returns
 returns c =
     let a = c .before .before .before .before .before .before .before .args in
     let p = c .before .before .before .before .before .before .before .pre in
-    plan-short-own (tablesOf (a .types .now) (a .rows .now) (a .due .now)) (countsOf (a .count) (a .n)) (a .loads .now) (a .times .now) (a .words .now) (a .placement .now) (sym (c .before .short-placement .ensures) ∙ c .if1 .taken)
+    (plan-short-own (tablesOf (a .types .now) (a .rows .now) (a .due .now)) (countsOf (a .count) (a .n)) (a .loads .now) (a .times .now) (a .words .now) (a .placement .now) (sym (c .before .short-placement .ensures) ∙ c .if1 .taken), refused-picks _ _ _ _)
 
 short-placement-requires : tie.Need-short-placement-requires
 short-placement-requires c κs = search needs
@@ -24,7 +26,7 @@ returns-2 : tie.Need-returns-2
 returns-2 c =
     let a = c .before .before .before .before .before .before .before .before .before .args in
     let p = c .before .before .before .before .before .before .before .before .before .pre in
-    plan-short-work (tablesOf (a .types .now) (a .rows .now) (a .due .now)) (countsOf (a .count) (a .n)) (a .loads .now) (a .times .now) (a .words .now) (a .placement .now) (sym (c .before .short-work .ensures) ∙ c .if2 .taken)
+    (plan-short-work (tablesOf (a .types .now) (a .rows .now) (a .due .now)) (countsOf (a .count) (a .n)) (a .loads .now) (a .times .now) (a .words .now) (a .placement .now) (sym (c .before .short-work .ensures) ∙ c .if2 .taken), refused-picks _ _ _ _)
 
 enum-known-checked : tie.Need-enum-known-checked
 enum-known-checked c = search needs
@@ -42,7 +44,7 @@ returns-3 : tie.Need-returns-3
 returns-3 c =
     let a = c .before .before .before .before .before .before .before .before .before .before .before .before .args in
     let p = c .before .before .before .before .before .before .before .before .before .before .before .before .pre in
-    plan-stopped (tablesOf (a .types .now) (a .rows .now) (a .due .now)) (countsOf (a .count) (a .n)) (a .loads .now) (a .times .now) (a .words .now) (a .placement .now) _ (sym (c .before .before .before .before .before .before .short-placement .ensures) ∙ c .before .before .before .before .before .if1 .left) (sym (c .before .before .before .before .short-work .ensures) ∙ c .before .before .before .if2 .left) (checked-stopped (tablesOf (a .types .now) (a .rows .now) (a .due .now)) (countsOf (a .count) (a .n)) (a .checked) p _ (c .before .checked .given .1))
+    (plan-stopped (tablesOf (a .types .now) (a .rows .now) (a .due .now)) (countsOf (a .count) (a .n)) (a .loads .now) (a .times .now) (a .words .now) (a .placement .now) _ (sym (c .before .before .before .before .before .before .short-placement .ensures) ∙ c .before .before .before .before .before .if1 .left) (sym (c .before .before .before .before .short-work .ensures) ∙ c .before .before .before .if2 .left) (checked-stopped (tablesOf (a .types .now) (a .rows .now) (a .due .now)) (countsOf (a .count) (a .n)) (a .checked) p _ (c .before .checked .given .1)), refused-picks _ _ _ _)
 
 same-length : tie.Need-same-length
 same-length c = search needs

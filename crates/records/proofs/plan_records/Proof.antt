@@ -49,10 +49,11 @@ use Rattle.rules.proofs.Checking as Y
 use Rattle.rules.proofs.Checking.Laws as Y′
 use Rattle.rules.proofs.Planning as Q
 use Rattle.rules.proofs.Planning.Laws as Q′
-use Rattle.rules.specs.Promises.{PlanPromise, records}
-use Rattle.laws.specs.Checked.{tablesOf as netOf, countsOf}
+use Rattle.rules.specs.Promises.{PlanPromise, tabled}
 use Rattle.records.specs.Planning.{verdict-plans, verdict-four, plan-told}
 use Rattle.rules.specs.declared.Cand.{Cand}
+use Rattle.rules.specs.Areas.{records, planAreas}
+use Rattle.rules.specs.Tables.{tablesOf as netOf, countsOf}
 use Rattle.rules.proofs.Cand as T
 use Rattle.turns.proofs.Pass as P
 use Rattle.turns.proofs.Pass.Laws as P′
@@ -107,7 +108,7 @@ module _ {M : Type 1} (𝓤 : URA M) (H : Heap 𝓤) (A : Atoms 𝓤) (W : Given
   abbrev Post : Val → SProp 𝓤
   Post = walkOf 𝓤 H A f.ended stayed (f.clauses 𝓤 H A mem run) .post (((κ-types, (κ-rows, (κ-due, (κ-placement, (κ-work, tt))))), (q-types, (q-rows, (q-due, (q-placement, (q-work, tt))))), tt, handed, machine), tt)
 
-  exits : (r : Planning) (zs-placement : List ℕ) (zs-work : List Cand) → Is Q.the-row r (EL.vals Q.the-type Q′.the-laws r) → length zs-placement ≡ m-placement → length zs-work ≡ m-work → (PlanPromise records (netOf (t-types .now) (t-rows .now) (t-due .now)) (countsOf tc rc) ys-placement ys-work r zs-placement zs-work) → ent 𝓤 (⋆ 𝓤 H A (‵ (Slice u64 b-placement o-placement κ-placement m-placement γ-placement zs-placement) ∷ ‵ (flft κ-placement q-placement) ∷ ‵ (Slice T.the-row b-work o-work κ-work m-work γ-work zs-work) ∷ ‵ (flft κ-work q-work) ∷ ‵ (flft κ-types q-types) ∷ ‵ (ShrSlice (named 0) κ-types u32 .own t-types (sliceVal (t-types .ptr) (length (t-types .now)) ∷ [])) ∷ ‵ (flft κ-rows q-rows) ∷ ‵ (ShrSlice (named 1) κ-rows u32 .own t-rows (sliceVal (t-rows .ptr) (length (t-rows .now)) ∷ [])) ∷ ‵ (flft κ-due q-due) ∷ ‵ (ShrSlice (named 2) κ-due i64 .own t-due (sliceVal (t-due .ptr) (length (t-due .now)) ∷ [])) ∷ [])) (Post (EL.val Q.the-type Q′.the-laws r))
+  exits : (r : Planning) (zs-placement : List ℕ) (zs-work : List Cand) → Is Q.the-row r (EL.vals Q.the-type Q′.the-laws r) → length zs-placement ≡ m-placement → length zs-work ≡ m-work → (PlanPromise records (tabled (netOf (t-types .now) (t-rows .now) (t-due .now)) (countsOf tc rc)) (planAreas ys-placement ys-work) r (planAreas zs-placement zs-work)) → ent 𝓤 (⋆ 𝓤 H A (‵ (Slice u64 b-placement o-placement κ-placement m-placement γ-placement zs-placement) ∷ ‵ (flft κ-placement q-placement) ∷ ‵ (Slice T.the-row b-work o-work κ-work m-work γ-work zs-work) ∷ ‵ (flft κ-work q-work) ∷ ‵ (flft κ-types q-types) ∷ ‵ (ShrSlice (named 0) κ-types u32 .own t-types (sliceVal (t-types .ptr) (length (t-types .now)) ∷ [])) ∷ ‵ (flft κ-rows q-rows) ∷ ‵ (ShrSlice (named 1) κ-rows u32 .own t-rows (sliceVal (t-rows .ptr) (length (t-rows .now)) ∷ [])) ∷ ‵ (flft κ-due q-due) ∷ ‵ (ShrSlice (named 2) κ-due i64 .own t-due (sliceVal (t-due .ptr) (length (t-due .now)) ∷ [])) ∷ [])) (Post (EL.val Q.the-type Q′.the-laws r))
   exits r zs-placement zs-work r-is len-placement len-work is =
       qed W (‵ (Slice u64 b-placement o-placement κ-placement m-placement γ-placement zs-placement) ∷ ‵ (flft κ-placement q-placement) ∷ ‵ (Slice T.the-row b-work o-work κ-work m-work γ-work zs-work) ∷ ‵ (flft κ-work q-work) ∷ ‵ (flft κ-types q-types) ∷ ‵ (ShrSlice (named 0) κ-types u32 .own t-types (sliceVal (t-types .ptr) (length (t-types .now)) ∷ [])) ∷ ‵ (flft κ-rows q-rows) ∷ ‵ (ShrSlice (named 1) κ-rows u32 .own t-rows (sliceVal (t-rows .ptr) (length (t-rows .now)) ∷ [])) ∷ ‵ (flft κ-due q-due) ∷ ‵ (ShrSlice (named 2) κ-due i64 .own t-due (sliceVal (t-due .ptr) (length (t-due .now)) ∷ [])) ∷ []) ∵ suffices ! _ (ends-at 𝓤 H A f.ended stayed (f.clauses 𝓤 H A mem run) W (((κ-types, (κ-rows, (κ-due, (κ-placement, (κ-work, tt))))), (q-types, (q-rows, (q-due, (q-placement, (q-work, tt))))), tt, handed, machine), tt) (EL.val Q.the-type Q′.the-laws r) r (tt, (tt, (tt, (tt, (tt, (zs-placement, (zs-work, tt))))))) (tt, (tt, (tt, (tt, (tt, (len-placement, (len-work, tt)))))))) $ says ! is $ nothing ! $ move ! (4 ∷ 0 ∷ []) $ join ! $ move ! (2 ∷ 0 ∷ []) $ join ! $ move ! (7 ∷ 0 ∷ []) $ join ! $ move ! (5 ∷ 0 ∷ []) $ join ! $ move ! (3 ∷ 0 ∷ []) $ join ! $ frame ! $ nothing ! $ move ! (2 ∷ 0 ∷ []) $ fjoin ! $ move ! (1 ∷ 0 ∷ []) $ fjoin ! $ owned ! usize (Is usize) (uint-makes 𝓤 H A W w64) rc _ (refl, rc-fits) $ fjoin ! $ owned ! usize (Is usize) (uint-makes 𝓤 H A W w64) tc _ (refl, tc-fits) $ fjoin ! $ move ! (3 ∷ 0 ∷ []) $ fjoin ! $ move ! (2 ∷ 0 ∷ []) $ fjoin ! $ move ! (1 ∷ 0 ∷ []) $ fjoin ! $ frame ! $ owned ! Q.the-row (Is Q.the-row) (EL.makes Q.the-type Q′.the-plain 𝓤 H A) r _ r-is $ done !
 

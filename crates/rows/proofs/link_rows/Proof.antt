@@ -32,11 +32,11 @@ row-at-requires c κs = search needs
 cast-p : tie.Need-cast-p Inv-loop μ-loop
 cast-p c = search needs
 
-mul-behind : tie.Need-mul-behind Inv-loop μ-loop
-mul-behind c = search needs
+mul-former : tie.Need-mul-former Inv-loop μ-loop
+mul-former c = search needs
 
-slice-read-behind : tie.Need-slice-read-behind Inv-loop μ-loop
-slice-read-behind c =
+slice-read-former : tie.Need-slice-read-former Inv-loop μ-loop
+slice-read-former c =
     let b = c .before .before .before .before .before .before .before in
     let l = c .before .before .before .before .loop in
     omega (arith, parent-early (b .args .rows .now) (b .args .due .now) (b .args .n) (l .i - 1) (c .before .before .row-at .result) (b .pre .1 .0) (omega arith) (omega arith) (c .before .before .row-at .ensures), l .inv .1 .long)
@@ -93,8 +93,8 @@ link-rows-spec =
     sub-m
     row-at-requires
     cast-p
-    mul-behind
-    slice-read-behind
+    mul-former
+    slice-read-former
     add-links
     mul-links
     slice-write-links

@@ -12,20 +12,20 @@ slice-aggregate-link c = search needs
 link-requires : tie.Need-link-requires
 link-requires c κs = search needs
 
-slice-aggregate-seen : tie.Need-slice-aggregate-seen
-slice-aggregate-seen c = search needs
+slice-aggregate-at-driver : tie.Need-slice-aggregate-at-driver
+slice-aggregate-at-driver c = search needs
 
-seen-requires : tie.Need-seen-requires
-seen-requires c κs = search needs
+at-driver-requires : tie.Need-at-driver-requires
+at-driver-requires c κs = search needs
 
 row-at-requires : tie.Need-row-at-requires
 row-at-requires c κs = search needs
 
 slack-at-requires : tie.Need-slack-at-requires
-slack-at-requires c κs = driver-needs (c .before .before .before .before .before .before .before .before .before .pre) (c .row-at .ensures) (c .before .seen .ensures)
+slack-at-requires c κs = driver-needs (c .before .before .before .before .before .before .before .before .before .pre) (c .row-at .ensures) (c .before .at-driver .ensures)
 
 returns : tie.Need-returns
-returns c = c .slack-at .ensures ∙ ap₂ (λ x h. slackHung (x .resistance .0) h) (c .before .row-at .ensures) (c .before .before .seen .ensures)
+returns c = c .slack-at .ensures ∙ ap₂ (λ x h. slackHung (x .resistance .0) h) (c .before .row-at .ensures) (c .before .before .at-driver .ensures)
 
 pub timing-spec : {M : Type 1} → statement M
 timing-spec =
@@ -33,8 +33,8 @@ timing-spec =
     (tie.spec
     slice-aggregate-link
     link-requires
-    slice-aggregate-seen
-    seen-requires
+    slice-aggregate-at-driver
+    at-driver-requires
     row-at-requires
     slack-at-requires
     returns)

@@ -5,13 +5,13 @@ use mathlib.Core.Path.{_≡_, refl, sym, _∙_}
 use native.Mathlib.Omega.{arith}
 use borrow.Author.Needs.{needs}
 use lib.ListN.{length, drop, getD}
-use Rattle.rules.specs.Text.{digits}
+use Rattle.rules.specs.Text.{moreDigits}
 use Rattle.text.specs.Numbers.{cap, fieldOf, digits-none, digits-past, digit-bounds, digits-done}
 use Rattle.text.proofs.digits_of.Statement.{statement}
 use Rattle.text.proofs.digits_of.Tie as tie
 
 abbrev Inv-loop : tie.InvT-loop
-Inv-loop part next n₀ i₀ n i = (i ≤ length part) × ((n ≤ cap) × (fieldOf (digits n (drop i part)) next ≡ fieldOf (digits 0 part) next))
+Inv-loop part next n₀ i₀ n i = (i ≤ length part) × ((n ≤ cap) × (fieldOf (moreDigits n (drop i part)) next ≡ fieldOf (moreDigits 0 part) next))
 
 abbrev μ-loop : tie.MeasureT-loop
 μ-loop part next n₀ i₀ n i = length part - i

@@ -1,10 +1,10 @@
--- `text::field_at` meets its contract: behind the line nothing is left, and else the part ends where the stretch does. Assumes nothing.
+-- `text::field_at` meets its contract: past the line nothing is left, and else the part ends where the stretch does. Assumes nothing.
 use mathlib.Core.Path.{_≡_, ap}
 use Prim.Native.Nat.{ℕ, _-_}
 use native.Mathlib.Omega.{arith}
 use borrow.Author.Needs.{needs}
 use lib.ListN.{take, drop, length-drop}
-use Rattle.text.specs.Stretches.{tab, lead, lead-le, stretch-behind}
+use Rattle.text.specs.Stretches.{tab, lead, lead-le, stretch-past}
 use Rattle.text.proofs.field_at.Statement.{statement}
 use Rattle.text.proofs.field_at.Tie as tie
 
@@ -12,7 +12,7 @@ slice-aggregate-result : tie.Need-slice-aggregate-result
 slice-aggregate-result c = search needs
 
 returns : tie.Need-returns
-returns c = stretch-behind tab (c .before .before .before .args .line .now) (c .before .before .before .args .at) (omega arith)
+returns c = stretch-past tab (c .before .before .before .args .line .now) (c .before .before .before .args .at) (omega arith)
 
 stretch-end-requires : tie.Need-stretch-end-requires
 stretch-end-requires c κs = search needs

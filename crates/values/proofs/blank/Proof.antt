@@ -2,7 +2,7 @@
 use mathlib.Core.Path.{_≡_}
 use lib.IntN.{pos}
 use Rattle.rules.specs.declared.Cand.{Cand}
-use Rattle.rules.specs.Promises.{zeros}
+use Rattle.rules.specs.Areas.{zeros}
 use Rattle.values.specs.Records.{plainOf}
 use borrow.Author.Needs.{needs}
 use Rattle.values.proofs.blank.Statement.{statement}

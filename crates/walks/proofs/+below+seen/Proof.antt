@@ -6,9 +6,9 @@ use native.Mathlib.Omega.{arith}
 use borrow.Author.Needs.{needs}
 use lib.ListN.{getD}
 use Rattle.rules.specs.Quantities.{workRoom}
+use Rattle.rooms.specs.Links.{nextAt}
 use Rattle.laws.specs.Walk.{seenAt}
 use Rattle.laws.specs.Tabled.{rowsFrom, repeatersFrom}
-use Rattle.rows.specs.Links.{nextAt}
 use Rattle.rows.specs.Backward.{rowsLeft}
 use Rattle.columns.specs.Made.{Room, room-run}
 use Rattle.columns.specs.Run.{run}

@@ -1,6 +1,8 @@
 -- `zombrict::zombrict_plan` meets its contract: 7 for the answer, else the promise of the entry and the answer as it crosses. Assumes nothing.
-use mathlib.Core.Path.{refl}
+use mathlib.Core.Path.{refl, sym, _∙_}
+use native.Mathlib.Omega.{arith}
 use borrow.Author.Needs.{needs}
+use Rattle.laws.specs.Picked.{numbered-picks}
 use Rattle.answers.specs.Crossing.{area-short, area-long, called-short, called}
 use Rattle.zombrict.proofs.zombrict_plan.Statement.{statement}
 use Rattle.zombrict.proofs.zombrict_plan.Tie as tie
@@ -12,7 +14,7 @@ short-requires : tie.Need-short-requires
 short-requires c κs = search needs
 
 returns : tie.Need-returns
-returns c = called-short (area-short (c .before .before .room .ensures) (c .before .if1 .taken)) ((c .short .ensures, refl), refl, refl)
+returns c = (called-short (area-short (c .before .before .room .ensures) (c .before .if1 .taken)) (c .short .ensures, refl), numbered-picks _ _ _ (omega (arith, c .short .ensures)))
 
 plan-net-requires : tie.Need-plan-net-requires
 plan-net-requires c κs = search needs
@@ -36,7 +38,7 @@ same-length-5 : tie.Need-same-length-5
 same-length-5 c = search needs
 
 returns-2 : tie.Need-returns-2
-returns-2 c = called (area-long (c .before .before .before .before .before .before .before .before .before .before .before .before .before .before .before .before .room .ensures) (c .before .before .before .before .before .before .before .before .before .before .before .before .before .before .before .if1 .left)) (c .before .before .before .before .before .before .before .before .before .before .plan-net .result, c .before .before .before .before .before .before .before .before .before .before .plan-net .ensures, c .before .tell-planning .ensures)
+returns-2 c = (called (area-long (c .before .before .before .before .before .before .before .before .before .before .before .before .before .before .before .before .room .ensures) (c .before .before .before .before .before .before .before .before .before .before .before .before .before .before .before .if1 .left)) (c .before .before .before .before .before .before .before .before .before .before .plan-net .result, c .before .before .before .before .before .before .before .before .before .before .plan-net .ensures .0, c .before .tell-planning .ensures), λ z. c .before .before .before .before .before .before .before .before .before .before .plan-net .ensures .1 (sym (c .before .tell-planning .ensures .number-is) ∙ z))
 
 pub zombrict-plan-spec : {M : Type 1} → statement M
 zombrict-plan-spec =

@@ -12,7 +12,7 @@ short-requires : tie.Need-short-requires
 short-requires c κs = search needs
 
 returns : tie.Need-returns
-returns c = called-short (area-short (c .before .before .room .ensures) (c .before .if1 .taken)) ((c .short .ensures, refl), refl)
+returns c = called-short (area-short (c .before .before .room .ensures) (c .before .if1 .taken)) (c .short .ensures, refl)
 
 read-net-requires : tie.Need-read-net-requires
 read-net-requires c κs = search needs

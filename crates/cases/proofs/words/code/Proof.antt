@@ -23,11 +23,11 @@ returns c = search needs
 mul-n : tie.Need-mul-n Inv-loop μ-loop
 mul-n c = search needs
 
-shared-slice-read-wide : tie.Need-shared-slice-read-wide Inv-loop μ-loop
-shared-slice-read-wide c = search needs
+shared-slice-read-byte : tie.Need-shared-slice-read-byte Inv-loop μ-loop
+shared-slice-read-byte c = search needs
 
-wide-requires : tie.Need-wide-requires Inv-loop μ-loop
-wide-requires c κs = search needs
+byte-requires : tie.Need-byte-requires Inv-loop μ-loop
+byte-requires c κs = search needs
 
 add-n : tie.Need-add-n Inv-loop μ-loop
 add-n c = search needs
@@ -54,8 +54,8 @@ code-spec =
     loop-holds
     returns
     mul-n
-    shared-slice-read-wide
-    wide-requires
+    shared-slice-read-byte
+    byte-requires
     add-n
     add-i
     loop-less

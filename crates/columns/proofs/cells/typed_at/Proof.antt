@@ -2,7 +2,7 @@
 use mathlib.Core.Path.{ap, sym, _∙_}
 use native.Mathlib.Omega.{arith}
 use borrow.Author.Needs.{needs}
-use Rattle.laws.specs.Joining.{set}
+use Rattle.laws.specs.Joining.{withMark}
 use Rattle.units.specs.Bits.{bits-back}
 use Rattle.columns.specs.Stores.{puts-as, puts-again}
 use Rattle.columns.specs.Run.{Candidate, run-at, run-put}
@@ -43,7 +43,7 @@ returns c =
     let a = copied .before .before .before .before .before .args in
     let p = ap (λ (x : Candidate). x .place) (run-at (a .loads .now) (a .times .now) (a .words .now) (a .from) (omega arith) (omega arith)) in
     let put = copied .copy-words .ensures in
-    rw (bits-back (a .time .0) (omega arith)) (run-put (a .loads .now) (a .times .now) (a .words .now) _ (a .to) (a .input .0) (a .time .0) _ (puts-as (puts-again put (marked .mark-words .ensures)) (ap (set (a .k) (a .m)) (put .here ∙ sym p))))
+    rw (bits-back (a .time .0) (omega arith)) (run-put (a .loads .now) (a .times .now) (a .words .now) _ (a .to) (a .input .0) (a .time .0) _ (puts-as (puts-again put (marked .mark-words .ensures)) (ap (withMark (a .k) (a .m)) (put .here ∙ sym p))))
 
 pub typed-at-spec : {M : Type 1} → statement M
 typed-at-spec =

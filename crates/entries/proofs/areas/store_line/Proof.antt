@@ -1,4 +1,4 @@
--- `entries::areas::store_line` meets its contract: each kind of line is stored behind those that have passed. Assumes nothing.
+-- `entries::areas::store_line` meets its contract: each kind of line is stored after those that have passed. Assumes nothing.
 use native.Mathlib.Omega.{arith}
 use Rattle.entries.specs.HeldLaws.{roomy-type, roomy-driver, roomy-point, roomy-sink, grown-type, grown-driver, grown-point, grown-sink, grown-none}
 use borrow.Author.Needs.{needs}

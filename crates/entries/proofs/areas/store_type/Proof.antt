@@ -1,4 +1,4 @@
--- `entries::areas::store_type` meets its contract: three words behind those that stand there. Assumes nothing.
+-- `entries::areas::store_type` meets its contract: three words after those that stand there. Assumes nothing.
 use native.Mathlib.Omega.{arith}
 use lib.ListN.{length-set}
 use Rattle.entries.specs.Words.{three-stored}

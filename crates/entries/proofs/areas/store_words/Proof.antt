@@ -1,4 +1,4 @@
--- `entries::areas::store_words` meets its contract: six words behind those that stand there. Assumes nothing.
+-- `entries::areas::store_words` meets its contract: six words after those that stand there. Assumes nothing.
 use native.Mathlib.Omega.{arith}
 use lib.ListN.{length-set}
 use Rattle.entries.specs.Words.{six-stored}

@@ -2,10 +2,10 @@
 -- Assumes nothing.
 use native.Mathlib.Omega.{arith}
 use Rattle.net.specs.Steps.{Rooms, rooms-kept}
-use Rattle.net.specs.Filled.{refused-behind, taken-behind, taken-few}
-use Rattle.net.specs.TableSteps.{tablesOf}
+use Rattle.net.specs.Filled.{refused-after, taken-after, taken-few}
 use borrow.Author.Needs.{needs}
 use Rattle.net.proofs.reads.read_into.Statement.{statement}
+use Rattle.rules.specs.Tables.{tablesOf}
 use Rattle.net.proofs.reads.read_into.Tie as tie
 
 read-lines-requires : tie.Need-read-lines-requires
@@ -67,7 +67,7 @@ same-length-3 c = search needs
 returns : tie.Need-returns
 returns c =
     let a = c .before .before .before .before .before .before .before .before .before .before .before .before .before .before .before .before .before .args in
-    refused-behind (a .text .now) (tablesOf (a .types .now) (a .rows .now) (a .due .now)) (c .before .before .before .before .before .before .before .before .read-lines .result) _ _ _ (c .before .r .given .0 .0) (c .before .before .before .before .before .before .before .before .read-lines .ensures) (c .before .r .given .1)
+    refused-after (a .text .now) (tablesOf (a .types .now) (a .rows .now) (a .due .now)) (c .before .before .before .before .before .before .before .before .read-lines .result) _ _ _ (c .before .r .given .0 .0) (c .before .before .before .before .before .before .before .before .read-lines .ensures) (c .before .r .given .1)
 
 same-length-4 : tie.Need-same-length-4
 same-length-4 c = search needs
@@ -91,7 +91,7 @@ returns-2 : tie.Need-returns-2
 returns-2 c =
     let a = c .before .before .before .before .before .before .before .before .before .before .before .before .before .before .before .before .before .before .before .before .before .before .before .before .before .before .before .before .before .before .before .args in
     let room : Rooms (c .before .before .before .before .before .before .before .before .before .before .before .before .before .before .before .before .before .before .before .before .before .before .read-lines .last .1 .0) (c .before .before .before .before .before .before .before .before .before .before .before .before .before .before .before .before .before .before .before .before .before .before .read-lines .last .1 .1 .0) (c .before .before .before .before .before .before .before .before .before .before .before .before .before .before .before .before .before .before .before .before .before .before .read-lines .last .1 .1 .1 .0) = rooms-kept (a .type-words .now) _ (a .row-words .now) _ (a .times .now) _ (c .before .before .before .before .before .before .before .before .before .before .before .before .before .before .before .before .before .before .before .before .before .before .before .before .before .before .before .before .before .before .before .pre .0) (c .before .before .before .before .before .before .before .before .before .before .before .before .before .before .before .before .before .before .before .before .before .type-words .given) (c .before .before .before .before .before .before .before .before .before .before .before .before .before .before .before .before .before .before .before .row-words .given) (c .before .before .before .before .before .before .before .before .before .before .before .before .before .before .before .before .before .times .given) in
-    taken-behind (a .text .now) (c .before .before .before .before .before .before .before .before .before .before .before .before .before .before .before .before .before .before .before .before .before .before .read-lines .result) (c .before .before .before .before .before .before .before .before .before .before .before .before .before .before .before .before .before .before .before .before .before .before .read-lines .last .1 .0) (c .before .before .before .before .before .before .before .before .before .before .before .before .before .before .before .before .before .before .before .before .before .before .read-lines .last .1 .1 .0) (c .before .before .before .before .before .before .before .before .before .before .before .before .before .before .before .before .before .before .before .before .before .before .read-lines .last .1 .1 .1 .0) (c .before .before .before .before .before .before .before .before .before .before .before .before .before .before .before .n .given .0 .0) (a .types .now) _ (a .rows .now) _ (a .due .now) _ (c .before .before .before .before .before .before .before .before .before .before .before .before .before .before .before .before .before .before .before .before .before .before .read-lines .ensures) (c .before .before .before .before .before .before .before .before .before .before .before .before .before .before .before .n .given .1) room (c .before .before .before .before .before .before .before .before .before .before .before .copy-words .ensures) (c .before .before .before .before .before .before .copy-words2 .ensures) (c .before .copy-times .ensures)
+    taken-after (a .text .now) (c .before .before .before .before .before .before .before .before .before .before .before .before .before .before .before .before .before .before .before .before .before .before .read-lines .result) (c .before .before .before .before .before .before .before .before .before .before .before .before .before .before .before .before .before .before .before .before .before .before .read-lines .last .1 .0) (c .before .before .before .before .before .before .before .before .before .before .before .before .before .before .before .before .before .before .before .before .before .before .read-lines .last .1 .1 .0) (c .before .before .before .before .before .before .before .before .before .before .before .before .before .before .before .before .before .before .before .before .before .before .read-lines .last .1 .1 .1 .0) (c .before .before .before .before .before .before .before .before .before .before .before .before .before .before .before .n .given .0 .0) (a .types .now) _ (a .rows .now) _ (a .due .now) _ (c .before .before .before .before .before .before .before .before .before .before .before .before .before .before .before .before .before .before .before .before .before .before .read-lines .ensures) (c .before .before .before .before .before .before .before .before .before .before .before .before .before .before .before .n .given .1) room (c .before .before .before .before .before .before .before .before .before .before .before .copy-words .ensures) (c .before .before .before .before .before .before .copy-words2 .ensures) (c .before .copy-times .ensures)
 
 pub read-into-spec : {M : Type 1} → statement M
 read-into-spec =

@@ -1,4 +1,4 @@
--- `net::tables::take_net` meets its contract: the types, then the rows behind them. Assumes nothing.
+-- `net::tables::take_net` meets its contract: the types, then the rows after them. Assumes nothing.
 use Rattle.net.specs.CheckLaws.{types-refused, rows-refused, rows-accepted, few-taken}
 use borrow.Author.Needs.{needs}
 use Rattle.net.proofs.tables.take_net.Statement.{statement}

@@ -1,15 +1,15 @@
--- `net::tables::take_rows` meets its contract. The loop's invariant: the rows before i have passed behind the types. Assumes nothing.
+-- `net::tables::take_rows` meets its contract. The loop's invariant: the rows before i have passed after the types. Assumes nothing.
 use Prim.Native.Nat.{ℕ, _≤_, _-_, min}
 use mathlib.Core.Path.{_≡_, refl, ap, _∙_}
 use mathlib.Core.List.{List}
 use native.Mathlib.Omega.{arith}
 use Rattle.rules.specs.Entries.{Entry}
-use Rattle.rules.specs.Tables.{from, rowEntry}
+use Rattle.rules.specs.Tables.{from, rowEntry, tablesOf}
 use Rattle.entries.specs.Lines.{lineFor}
 use Rattle.checks.specs.Checks.{FewPassed, placeAt}
 use Rattle.entries.specs.Entries.{rowEntryOf}
 use Rattle.entries.specs.Held.{Holds}
-use Rattle.net.specs.TableSteps.{tablesOf, Through}
+use Rattle.net.specs.TableSteps.{Through}
 use Rattle.net.specs.Taking.{line-room}
 use Rattle.entries.specs.RowLaws.{row-grown, row-entry-is, row-counted}
 use Rattle.net.specs.TableLaws.{through-none, take-refused-all, take-more, take-beyond-all, take-done}

@@ -4,10 +4,10 @@ use mathlib.Core.Path.{_≡_, refl}
 use mathlib.Core.List.{List, []}
 use native.Mathlib.Omega.{arith}
 use lib.IntN.{ℤ}
-use Rattle.rules.specs.Tables.{from, typeEntry}
+use Rattle.rules.specs.Tables.{from, typeEntry, tablesOf}
 use Rattle.checks.specs.declared.Line.the-variants.{Repeater as TypeLine}
 use Rattle.checks.specs.Checks.{FewPassed, placeAt}
-use Rattle.net.specs.TableSteps.{tablesOf, Through}
+use Rattle.net.specs.TableSteps.{Through}
 use Rattle.net.specs.Taking.{line-room}
 use Rattle.net.specs.ReadLaws.{holds-nothing}
 use Rattle.entries.specs.RowLaws.{type-grown, type-line-is}

@@ -1,9 +1,9 @@
 -- `plan::listing::list_accepted` meets its contract. Assumes nothing.
 use Rattle.chosen.specs.Promised.{parts-exact, list-promise, cleared-is}
-use Rattle.chosen.specs.Lent.{lentOf}
 use lib.Seq.{length-take-le}
 use mathlib.Core.Path.{_≡_, refl, sym}
 use Rattle.rules.specs.declared.Listing.the-variants.{Listed}
+use Rattle.rules.specs.Areas.{lentOf}
 use borrow.Author.Needs.{needs}
 use Rattle.plan.proofs.listing.list_accepted.Statement.{statement}
 use Rattle.plan.proofs.listing.list_accepted.Tie as tie

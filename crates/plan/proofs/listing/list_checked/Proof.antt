@@ -1,10 +1,11 @@
 -- `plan::listing::list_checked` meets its contract. Assumes nothing.
 use Rattle.plan.specs.Refusing.{list-short-own, list-short-work, list-stopped, list-no-row}
 use Rattle.chosen.specs.Promised.{work-room, list-rooms}
-use Rattle.laws.specs.Checked.{tablesOf, countsOf, checked-stopped, checked-passed}
+use Rattle.laws.specs.Checked.{checked-stopped, checked-passed}
 use mathlib.Core.Path.{sym, _∙_}
 use borrow.Author.Needs.{needs}
 use Rattle.plan.proofs.listing.list_checked.Statement.{statement}
+use Rattle.rules.specs.Tables.{tablesOf, countsOf}
 use Rattle.plan.proofs.listing.list_checked.Tie as tie
 
 short-list-requires : tie.Need-short-list-requires

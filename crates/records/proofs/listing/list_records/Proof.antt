@@ -50,11 +50,11 @@ use Rattle.rules.proofs.Checking.Laws as Y′
 use Rattle.rules.specs.declared.Listing.{Listing}
 use Rattle.rules.proofs.Listing as Z
 use Rattle.rules.proofs.Listing.Laws as Z′
-use Rattle.rules.specs.Promises.{ListPromise, records}
-use Rattle.laws.specs.Checked.{tablesOf as netOf, countsOf}
-use Rattle.chosen.specs.Lent.{lentOf}
+use Rattle.rules.specs.Promises.{ListPromise, tabled}
 use Rattle.records.specs.Listed.{list-asks, list-done}
 use Rattle.rules.specs.declared.Cand.{Cand}
+use Rattle.rules.specs.Areas.{records, lentOf, listAreas}
+use Rattle.rules.specs.Tables.{tablesOf as netOf, countsOf}
 use Rattle.rules.proofs.Cand as T
 use Rattle.turns.proofs.Pass as P
 use Rattle.records.proofs.ListCalls.{JudgeList, to-judge-list, judge-list-says, goes-judge-list, gets-judge-list}
@@ -111,7 +111,7 @@ module _ {M : Type 1} (𝓤 : URA M) (H : Heap 𝓤) (A : Atoms 𝓤) (W : Given
   abbrev Post : Val → SProp 𝓤
   Post = walkOf 𝓤 H A f.ended stayed (f.clauses 𝓤 H A mem run) .post (((κ-types, (κ-rows, (κ-due, (κ-lls, (κ-lts, (κ-work, tt)))))), (q-types, (q-rows, (q-due, (q-lls, (q-lts, (q-work, tt)))))), tt, handed, machine), tt)
 
-  exits : (r : Listing) (zs-lls : List ℕ) (zs-lts : List ℤ) (zs-work : List Cand) → Is Z.the-row r (EL.vals Z.the-type Z′.the-laws r) → length zs-lls ≡ m-lls → length zs-lts ≡ m-lts → length zs-work ≡ m-work → (ListPromise records (netOf (t-types .now) (t-rows .now) (t-due .now)) (countsOf tc rc) row (lentOf ys-lls ys-lts) ys-work r (lentOf zs-lls zs-lts) zs-work) → ent 𝓤 (⋆ 𝓤 H A (‵ (Slice u32 b-lls o-lls κ-lls m-lls γ-lls zs-lls) ∷ ‵ (flft κ-lls q-lls) ∷ ‵ (Slice i64 b-lts o-lts κ-lts m-lts γ-lts zs-lts) ∷ ‵ (flft κ-lts q-lts) ∷ ‵ (Slice T.the-row b-work o-work κ-work m-work γ-work zs-work) ∷ ‵ (flft κ-work q-work) ∷ ‵ (flft κ-types q-types) ∷ ‵ (ShrSlice (named 0) κ-types u32 .own t-types (sliceVal (t-types .ptr) (length (t-types .now)) ∷ [])) ∷ ‵ (flft κ-rows q-rows) ∷ ‵ (ShrSlice (named 1) κ-rows u32 .own t-rows (sliceVal (t-rows .ptr) (length (t-rows .now)) ∷ [])) ∷ ‵ (flft κ-due q-due) ∷ ‵ (ShrSlice (named 2) κ-due i64 .own t-due (sliceVal (t-due .ptr) (length (t-due .now)) ∷ [])) ∷ [])) (Post (EL.val Z.the-type Z′.the-laws r))
+  exits : (r : Listing) (zs-lls : List ℕ) (zs-lts : List ℤ) (zs-work : List Cand) → Is Z.the-row r (EL.vals Z.the-type Z′.the-laws r) → length zs-lls ≡ m-lls → length zs-lts ≡ m-lts → length zs-work ≡ m-work → (ListPromise records (tabled (netOf (t-types .now) (t-rows .now) (t-due .now)) (countsOf tc rc)) row (listAreas (lentOf ys-lls ys-lts) ys-work) r (listAreas (lentOf zs-lls zs-lts) zs-work)) → ent 𝓤 (⋆ 𝓤 H A (‵ (Slice u32 b-lls o-lls κ-lls m-lls γ-lls zs-lls) ∷ ‵ (flft κ-lls q-lls) ∷ ‵ (Slice i64 b-lts o-lts κ-lts m-lts γ-lts zs-lts) ∷ ‵ (flft κ-lts q-lts) ∷ ‵ (Slice T.the-row b-work o-work κ-work m-work γ-work zs-work) ∷ ‵ (flft κ-work q-work) ∷ ‵ (flft κ-types q-types) ∷ ‵ (ShrSlice (named 0) κ-types u32 .own t-types (sliceVal (t-types .ptr) (length (t-types .now)) ∷ [])) ∷ ‵ (flft κ-rows q-rows) ∷ ‵ (ShrSlice (named 1) κ-rows u32 .own t-rows (sliceVal (t-rows .ptr) (length (t-rows .now)) ∷ [])) ∷ ‵ (flft κ-due q-due) ∷ ‵ (ShrSlice (named 2) κ-due i64 .own t-due (sliceVal (t-due .ptr) (length (t-due .now)) ∷ [])) ∷ [])) (Post (EL.val Z.the-type Z′.the-laws r))
   exits r zs-lls zs-lts zs-work r-is len-lls len-lts len-work is =
       qed W (‵ (Slice u32 b-lls o-lls κ-lls m-lls γ-lls zs-lls) ∷ ‵ (flft κ-lls q-lls) ∷ ‵ (Slice i64 b-lts o-lts κ-lts m-lts γ-lts zs-lts) ∷ ‵ (flft κ-lts q-lts) ∷ ‵ (Slice T.the-row b-work o-work κ-work m-work γ-work zs-work) ∷ ‵ (flft κ-work q-work) ∷ ‵ (flft κ-types q-types) ∷ ‵ (ShrSlice (named 0) κ-types u32 .own t-types (sliceVal (t-types .ptr) (length (t-types .now)) ∷ [])) ∷ ‵ (flft κ-rows q-rows) ∷ ‵ (ShrSlice (named 1) κ-rows u32 .own t-rows (sliceVal (t-rows .ptr) (length (t-rows .now)) ∷ [])) ∷ ‵ (flft κ-due q-due) ∷ ‵ (ShrSlice (named 2) κ-due i64 .own t-due (sliceVal (t-due .ptr) (length (t-due .now)) ∷ [])) ∷ []) ∵ suffices ! _ (ends-at 𝓤 H A f.ended stayed (f.clauses 𝓤 H A mem run) W (((κ-types, (κ-rows, (κ-due, (κ-lls, (κ-lts, (κ-work, tt)))))), (q-types, (q-rows, (q-due, (q-lls, (q-lts, (q-work, tt)))))), tt, handed, machine), tt) (EL.val Z.the-type Z′.the-laws r) r (tt, (tt, (tt, (tt, (tt, (tt, (zs-lls, (zs-lts, (zs-work, tt))))))))) (tt, (tt, (tt, (tt, (tt, (tt, (len-lls, (len-lts, (len-work, tt)))))))))) $ says ! is $ nothing ! $ move ! (6 ∷ 0 ∷ []) $ join ! $ move ! (4 ∷ 0 ∷ []) $ join ! $ move ! (2 ∷ 0 ∷ []) $ join ! $ move ! (8 ∷ 0 ∷ []) $ join ! $ move ! (6 ∷ 0 ∷ []) $ join ! $ move ! (4 ∷ 0 ∷ []) $ join ! $ frame ! $ nothing ! $ move ! (3 ∷ 0 ∷ []) $ fjoin ! $ move ! (2 ∷ 0 ∷ []) $ fjoin ! $ move ! (1 ∷ 0 ∷ []) $ fjoin ! $ owned ! usize (Is usize) (uint-makes 𝓤 H A W w64) row _ (refl, row-fits) $ fjoin ! $ owned ! usize (Is usize) (uint-makes 𝓤 H A W w64) rc _ (refl, rc-fits) $ fjoin ! $ owned ! usize (Is usize) (uint-makes 𝓤 H A W w64) tc _ (refl, tc-fits) $ fjoin ! $ move ! (3 ∷ 0 ∷ []) $ fjoin ! $ move ! (2 ∷ 0 ∷ []) $ fjoin ! $ move ! (1 ∷ 0 ∷ []) $ fjoin ! $ frame ! $ owned ! Z.the-row (Is Z.the-row) (EL.makes Z.the-type Z′.the-plain 𝓤 H A) r _ r-is $ done !
 

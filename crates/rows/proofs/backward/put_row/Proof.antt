@@ -5,11 +5,11 @@ use borrow.Author.Needs.{needs}
 use Rattle.rows.proofs.backward.put_row.Statement.{statement}
 use Rattle.rows.proofs.backward.put_row.Tie as tie
 
-mul-behind : tie.Need-mul-behind
-mul-behind c = search needs
+mul-former : tie.Need-mul-former
+mul-former c = search needs
 
-slice-read-behind : tie.Need-slice-read-behind
-slice-read-behind c = search needs
+slice-read-former : tie.Need-slice-read-former
+slice-read-former c = search needs
 
 add-links : tie.Need-add-links
 add-links c = search needs
@@ -60,8 +60,8 @@ pub put-row-spec : {M : Type 1} → statement M
 put-row-spec =
     tie.close
     (tie.spec
-    mul-behind
-    slice-read-behind
+    mul-former
+    slice-read-former
     add-links
     mul-links
     slice-write-links

@@ -4,8 +4,8 @@ use Prim.Native.Nat.{_+_, _<_}
 use native.Mathlib.Omega.{arith}
 use lib.ListN.{getD}
 use borrow.Author.Needs.{needs}
-use Rattle.rows.specs.Links.{nextAt}
-use Rattle.rows.specs.Backward.{first, behind}
+use Rattle.rooms.specs.Links.{nextAt}
+use Rattle.rows.specs.Backward.{first, second}
 use Rattle.rows.proofs.backward.slot.Statement.{statement}
 use Rattle.rows.proofs.backward.slot.Tie as tie
 
@@ -44,7 +44,7 @@ returns-3 c =
     let a = c .before .before .before .before .before .before .before .before .args in
     let h = c .before .before .before .first-below in
     let inside : getD (a .links .now) (a .p) 0 < a .n = rw (← (h .ensures)) (omega (arith, c .before .before .if2 .left)) in
-    behind inside (ap (λ z. nextAt + z) (h .ensures))
+    second inside (ap (λ z. nextAt + z) (h .ensures))
 
 returns-4 : tie.Need-returns-4
 returns-4 c = first refl

@@ -41,9 +41,9 @@ use denote.Triple.Table.{entered, cited}
 use denote.Triple.Call.{calls-at}
 use denote.Triple.Walked.{says, needs, Stays, stay-slice, stay-none, walkOf, Walks, ends-at, walked, goes-slice, goes-none, walk-meets}
 use Rattle.rules.specs.declared.Cand.{Cand}
+use Rattle.rules.specs.Areas.{zeros}
 use Rattle.turns.specs.declared.Pass.{Pass}
 use Rattle.turns.specs.declared.Turn.{Turn}
-use Rattle.rules.specs.Promises.{zeros}
 use Rattle.turns.specs.Turns.{Turned}
 use Rattle.runs.specs.Passes.{Ready, first, second}
 use Rattle.rules.proofs.Cand as T

@@ -58,7 +58,7 @@ add-on-to : tie.Need-add-on-to
 add-on-to c = search needs
 
 sub-on-to-2 : tie.Need-sub-on-to-2
-sub-on-to-2 c = c .before .before .before .before .before .before .before .before .pre .1 .behind (omega (arith, c .before .before .if4 .left)) (c .before .if5 .taken)
+sub-on-to-2 c = c .before .before .before .before .before .before .before .before .pre .1 .past (omega (arith, c .before .before .if4 .left)) (c .before .if5 .taken)
 
 on-to-requires-4 : tie.Need-on-to-requires-4
 on-to-requires-4 c κs = search needs

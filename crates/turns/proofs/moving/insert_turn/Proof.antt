@@ -23,29 +23,29 @@ search-turn-requires c κs = search needs
 returns-2 : tie.Need-returns-2
 returns-2 c = let g = sym (c .before .before .before .is-below .ensures) ∙ c .before .before .if2 .taken in rw (le-ltb _ _ (c .before .before .before .before .before .before .before .before .before .if1 .left), g) (c .search-turn .ensures)
 
+is-covered-requires : tie.Need-is-covered-requires
+is-covered-requires c κs = search needs
+
+covered-turn-requires : tie.Need-covered-turn-requires
+covered-turn-requires c κs = search needs
+
+returns-3 : tie.Need-returns-3
+returns-3 c = let g = sym (c .before .before .before .before .is-below .ensures) ∙ c .before .before .before .if2 .left in let h = sym (c .before .before .is-covered .ensures) ∙ c .before .if3 .taken in rw (le-ltb _ _ (c .before .before .before .before .before .before .before .before .before .before .if1 .left), g, h) (c .covered-turn .ensures)
+
 is-covering-requires : tie.Need-is-covering-requires
 is-covering-requires c κs = search needs
 
 search-turn-requires-2 : tie.Need-search-turn-requires-2
 search-turn-requires-2 c κs = search needs
 
-returns-3 : tie.Need-returns-3
-returns-3 c = let g = sym (c .before .before .before .before .is-below .ensures) ∙ c .before .before .before .if2 .left in let h = sym (c .before .before .is-covering .ensures) ∙ c .before .if3 .taken in rw (le-ltb _ _ (c .before .before .before .before .before .before .before .before .before .before .if1 .left), g, h) (c .search-turn2 .ensures)
-
-is-covering-requires-2 : tie.Need-is-covering-requires-2
-is-covering-requires-2 c κs = search needs
-
-beaten-turn-requires : tie.Need-beaten-turn-requires
-beaten-turn-requires c κs = search needs
-
 returns-4 : tie.Need-returns-4
-returns-4 c = let g = sym (c .before .before .before .before .before .before .is-below .ensures) ∙ c .before .before .before .before .before .if2 .left in let h = sym (c .before .before .before .before .is-covering .ensures) ∙ c .before .before .before .if3 .left in let k = sym (c .before .before .is-covering2 .ensures) ∙ c .before .if4 .taken in rw (le-ltb _ _ (c .before .before .before .before .before .before .before .before .before .before .before .before .if1 .left), g, h, k) (c .beaten-turn .ensures)
+returns-4 c = let g = sym (c .before .before .before .before .before .before .is-below .ensures) ∙ c .before .before .before .before .before .if2 .left in let h = sym (c .before .before .before .before .is-covered .ensures) ∙ c .before .before .before .if3 .left in let k = sym (c .before .before .is-covering .ensures) ∙ c .before .if4 .taken in rw (le-ltb _ _ (c .before .before .before .before .before .before .before .before .before .before .before .before .if1 .left), g, h, k) (c .search-turn2 .ensures)
 
 shift-turn-requires-2 : tie.Need-shift-turn-requires-2
 shift-turn-requires-2 c κs = search needs
 
 returns-5 : tie.Need-returns-5
-returns-5 c = let g = sym (c .before .before .before .before .before .before .is-below .ensures) ∙ c .before .before .before .before .before .if2 .left in let h = sym (c .before .before .before .before .is-covering .ensures) ∙ c .before .before .before .if3 .left in let k = sym (c .before .before .is-covering2 .ensures) ∙ c .before .if4 .left in rw (le-ltb _ _ (c .before .before .before .before .before .before .before .before .before .before .before .before .if1 .left), g, h, k) (c .shift-turn2 .ensures)
+returns-5 c = let g = sym (c .before .before .before .before .before .before .is-below .ensures) ∙ c .before .before .before .before .before .if2 .left in let h = sym (c .before .before .before .before .is-covered .ensures) ∙ c .before .before .before .if3 .left in let k = sym (c .before .before .is-covering .ensures) ∙ c .before .if4 .left in rw (le-ltb _ _ (c .before .before .before .before .before .before .before .before .before .before .before .before .if1 .left), g, h, k) (c .shift-turn2 .ensures)
 
 pub insert-turn-spec : {M : Type 1} → statement M
 insert-turn-spec =
@@ -57,11 +57,11 @@ insert-turn-spec =
     add-search-turn
     search-turn-requires
     returns-2
+    is-covered-requires
+    covered-turn-requires
+    returns-3
     is-covering-requires
     search-turn-requires-2
-    returns-3
-    is-covering-requires-2
-    beaten-turn-requires
     returns-4
     shift-turn-requires-2
     returns-5)

@@ -10,11 +10,11 @@ enum-known-read c = search needs
 enum-known-read-2 : tie.Need-enum-known-read-2
 enum-known-read-2 c = search needs
 
-wide-requires : tie.Need-wide-requires
-wide-requires c κs = search needs
+count-requires : tie.Need-count-requires
+count-requires c κs = search needs
 
-wide-requires-2 : tie.Need-wide-requires-2
-wide-requires-2 c κs = search needs
+count-requires-2 : tie.Need-count-requires-2
+count-requires-2 c κs = search needs
 
 slice-aggregate-list-at : tie.Need-slice-aggregate-list-at
 slice-aggregate-list-at c = search needs
@@ -38,7 +38,7 @@ same-length-2 : tie.Need-same-length-2
 same-length-2 c = search needs
 
 returns-2 : tie.Need-returns-2
-returns-2 c = list-read _ _ _ _ _ _ (c .before .before .before .before .before .before .before .before .before .before .before .before .before .before .before .read2 .given .1) (c .before .before .before .before .before .before .before .before .before .before .before .before .before .wide .ensures) (c .before .before .before .before .before .before .before .before .before .before .before .before .wide2 .ensures) (c .before .before .before .before .before .before .list-at .ensures)
+returns-2 c = list-read _ _ _ _ _ _ (c .before .before .before .before .before .before .before .before .before .before .before .before .before .before .before .read2 .given .1) (c .before .before .before .before .before .before .before .before .before .before .before .before .before .count .ensures) (c .before .before .before .before .before .before .before .before .before .before .before .before .count2 .ensures) (c .before .before .before .before .before .before .list-at .ensures)
 
 pub list-read-spec : {M : Type 1} → statement M
 list-read-spec =
@@ -46,8 +46,8 @@ list-read-spec =
     (tie.spec
     enum-known-read
     enum-known-read-2
-    wide-requires
-    wide-requires-2
+    count-requires
+    count-requires-2
     slice-aggregate-list-at
     slice-aggregate-list-at-2
     slice-aggregate-list-at-3

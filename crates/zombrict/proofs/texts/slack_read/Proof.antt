@@ -10,11 +10,11 @@ enum-known-read c = search needs
 enum-known-read-2 : tie.Need-enum-known-read-2
 enum-known-read-2 c = search needs
 
-wide-requires : tie.Need-wide-requires
-wide-requires c κs = search needs
+count-requires : tie.Need-count-requires
+count-requires c κs = search needs
 
-wide-requires-2 : tie.Need-wide-requires-2
-wide-requires-2 c κs = search needs
+count-requires-2 : tie.Need-count-requires-2
+count-requires-2 c κs = search needs
 
 slack-of-requires : tie.Need-slack-of-requires
 slack-of-requires c κs = search needs
@@ -23,7 +23,7 @@ returns : tie.Need-returns
 returns c = slack-refused _ _ (c .before .read .given .1)
 
 returns-2 : tie.Need-returns-2
-returns-2 c = slack-read _ _ _ (c .before .before .before .before .read2 .given .1) (c .before .before .wide .ensures) (c .before .wide2 .ensures) (c .slack-of .ensures)
+returns-2 c = slack-read _ _ _ (c .before .before .before .before .read2 .given .1) (c .before .before .count .ensures) (c .before .count2 .ensures) (c .slack-of .ensures)
 
 pub slack-read-spec : {M : Type 1} → statement M
 slack-read-spec =
@@ -31,8 +31,8 @@ slack-read-spec =
     (tie.spec
     enum-known-read
     enum-known-read-2
-    wide-requires
-    wide-requires-2
+    count-requires
+    count-requires-2
     slack-of-requires
     returns
     returns-2)

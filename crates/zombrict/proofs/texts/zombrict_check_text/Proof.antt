@@ -2,6 +2,7 @@
 use mathlib.Core.Path.{refl}
 use borrow.Author.Needs.{needs}
 use Rattle.answers.specs.Crossing.{area-short, area-long, called-short, called}
+use Rattle.zombrict.specs.TextLaws.{count-on-text}
 use Rattle.zombrict.proofs.texts.zombrict_check_text.Statement.{statement}
 use Rattle.zombrict.proofs.texts.zombrict_check_text.Tie as tie
 
@@ -33,7 +34,7 @@ same-length : tie.Need-same-length
 same-length c = search needs
 
 returns-2 : tie.Need-returns-2
-returns-2 c = called (area-long (c .before .before .before .before .before .before .before .before .before .before .before .room .ensures) (c .before .before .before .before .before .before .before .before .before .before .if1 .left)) (c .before .before .before .before .before .before .read-net .result, _, c .before .before .before .before .before .before .read-net .ensures, c .before .tell-reading .ensures)
+returns-2 c = called (area-long (c .before .before .before .before .before .before .before .before .before .before .before .room .ensures) (c .before .before .before .before .before .before .before .before .before .before .if1 .left)) (c .before .before .before .before .before .before .read-net .result, count-on-text _ _ _ (c .before .before .before .before .before .before .read-net .ensures), c .before .tell-reading .ensures)
 
 pub zombrict-check-text-spec : {M : Type 1} → statement M
 zombrict-check-text-spec =

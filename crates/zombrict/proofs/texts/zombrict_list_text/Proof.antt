@@ -2,10 +2,11 @@
 use mathlib.Core.Path.{refl, sym, _∙_}
 use borrow.Author.Needs.{needs}
 use Rattle.rules.specs.Answers.{listFigures}
-use Rattle.rules.specs.Promises.{shortLent}
 use Rattle.rules.specs.declared.Listing.the-variants.{Refused}
 use Rattle.rules.specs.declared.Refusal.the-variants.{Short}
+use Rattle.rules.specs.Areas.{lentOf, shortLent}
 use Rattle.answers.specs.Crossing.{area-short, area-long, called-short, called, crossed-refused}
+use Rattle.zombrict.specs.TextLaws.{list-short, list-on-text}
 use Rattle.zombrict.proofs.texts.zombrict_list_text.Statement.{statement}
 use Rattle.zombrict.proofs.texts.zombrict_list_text.Tie as tie
 
@@ -16,7 +17,7 @@ short-requires : tie.Need-short-requires
 short-requires c κs = search needs
 
 returns : tie.Need-returns
-returns c = called-short (area-short (c .before .before .room .ensures) (c .before .if1 .taken)) ((c .short .ensures, refl), refl)
+returns c = called-short (area-short (c .before .before .room .ensures) (c .before .if1 .taken)) (c .short .ensures, refl)
 
 short-list-requires : tie.Need-short-list-requires
 short-list-requires c κs = search needs
@@ -29,7 +30,7 @@ same-length c = search needs
 
 returns-2 : tie.Need-returns-2
 unfolding listFigures shortLent
-returns-2 c = called (area-long (c .before .before .before .before .before .before .room .ensures) (c .before .before .before .before .before .if1 .left)) (Refused Short, called-short (sym (c .before .before .before .before .short-list .ensures) ∙ c .before .before .before .if2 .taken) (refl, refl), crossed-refused 0 Short refl refl (c .before .tell-refusal .ensures))
+returns-2 c = called (area-long (c .before .before .before .before .before .before .room .ensures) (c .before .before .before .before .before .if1 .left)) (Refused Short, list-short (c .before .before .before .before .before .before .before .before .before .args .text .now) (c .before .before .before .before .before .before .before .before .before .args .row) (lentOf (c .before .before .before .before .before .before .before .before .before .args .list-loads .now) (c .before .before .before .before .before .before .before .before .before .args .list-times .now)) (sym (c .before .before .before .before .short-list .ensures) ∙ c .before .before .before .if2 .taken), crossed-refused 0 Short refl refl (c .before .tell-refusal .ensures))
 
 slice-aggregate-read-net : tie.Need-slice-aggregate-read-net
 slice-aggregate-read-net c = search needs
@@ -69,7 +70,7 @@ same-length-4 c = search needs
 
 returns-3 : tie.Need-returns-3
 unfolding shortLent
-returns-3 c = called (area-long (c .before .before .before .before .before .before .before .before .before .before .before .before .before .before .before .before .before .before .before .before .before .before .room .ensures) (c .before .before .before .before .before .before .before .before .before .before .before .before .before .before .before .before .before .before .before .before .before .if1 .left)) (c .before .before .before .before .before .before .list-read .result, called (sym (c .before .before .before .before .before .before .before .before .before .before .before .before .before .before .before .before .before .before .before .before .short-list .ensures) ∙ c .before .before .before .before .before .before .before .before .before .before .before .before .before .before .before .before .before .before .before .if2 .left) (c .before .before .before .before .before .before .before .before .before .before .before .before .before .before .before .read-net .result, _, c .before .before .before .before .before .before .before .before .before .before .before .before .before .before .before .read-net .ensures, c .before .before .before .before .before .before .list-read .ensures), c .before .tell-listing .ensures)
+returns-3 c = called (area-long (c .before .before .before .before .before .before .before .before .before .before .before .before .before .before .before .before .before .before .before .before .before .before .room .ensures) (c .before .before .before .before .before .before .before .before .before .before .before .before .before .before .before .before .before .before .before .before .before .if1 .left)) (c .before .before .before .before .before .before .list-read .result, list-on-text _ _ _ _ _ _ _ (sym (c .before .before .before .before .before .before .before .before .before .before .before .before .before .before .before .before .before .before .before .before .short-list .ensures) ∙ c .before .before .before .before .before .before .before .before .before .before .before .before .before .before .before .before .before .before .before .if2 .left) (c .before .before .before .before .before .before .before .before .before .before .before .before .before .before .before .read-net .ensures) (c .before .before .before .before .before .before .list-read .ensures), c .before .tell-listing .ensures)
 
 pub zombrict-list-text-spec : {M : Type 1} → statement M
 zombrict-list-text-spec =

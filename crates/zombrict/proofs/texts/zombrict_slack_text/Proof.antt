@@ -6,6 +6,7 @@ use Rattle.rules.specs.Answers.{noTiming, slackFigures}
 use Rattle.rules.specs.declared.Refusal.the-variants.{Short}
 use Rattle.rules.specs.declared.Slacking.the-variants.{Refused}
 use Rattle.answers.specs.Crossing.{area-short, area-long, called-short, called, crossed-refused}
+use Rattle.zombrict.specs.TextLaws.{slack-short, slack-on-text}
 use Rattle.zombrict.proofs.texts.zombrict_slack_text.Statement.{statement}
 use Rattle.zombrict.proofs.texts.zombrict_slack_text.Tie as tie
 
@@ -26,7 +27,7 @@ same-length c = search needs
 
 returns-2 : tie.Need-returns-2
 unfolding noTiming slackFigures
-returns-2 c = called (area-long (c .before .before .before .before .before .room .ensures) (c .before .before .before .before .if1 .left)) (Refused Short, called-short (lt-ltb _ _ (c .before .before .before .if2 .taken)) refl, crossed-refused noTiming Short refl refl (c .before .tell-refusal .ensures))
+returns-2 c = called (area-long (c .before .before .before .before .before .room .ensures) (c .before .before .before .before .if1 .left)) (Refused Short, slack-short (c .before .before .before .before .before .before .before .before .args .text .now) (c .before .before .before .before .before .before .before .before .args .placement .now) (lt-ltb _ _ (c .before .before .before .if2 .taken)), crossed-refused noTiming Short refl refl (c .before .tell-refusal .ensures))
 
 slice-aggregate-read-net : tie.Need-slice-aggregate-read-net
 slice-aggregate-read-net c = search needs
@@ -59,7 +60,7 @@ same-length-2 : tie.Need-same-length-2
 same-length-2 c = search needs
 
 returns-3 : tie.Need-returns-3
-returns-3 c = called (area-long (c .before .before .before .before .before .before .before .before .before .before .before .before .before .before .before .before .room .ensures) (c .before .before .before .before .before .before .before .before .before .before .before .before .before .before .before .if1 .left)) (c .before .before .before .slack-read .result, called (le-ltb _ _ (c .before .before .before .before .before .before .before .before .before .before .before .before .before .before .if2 .left)) (c .before .before .before .before .before .before .before .before .before .before .read-net .result, _, c .before .before .before .before .before .before .before .before .before .before .read-net .ensures, c .before .before .before .slack-read .ensures), c .before .tell-slacking .ensures)
+returns-3 c = called (area-long (c .before .before .before .before .before .before .before .before .before .before .before .before .before .before .before .before .room .ensures) (c .before .before .before .before .before .before .before .before .before .before .before .before .before .before .before .if1 .left)) (c .before .before .before .slack-read .result, slack-on-text _ _ _ _ _ (le-ltb _ _ (c .before .before .before .before .before .before .before .before .before .before .before .before .before .before .if2 .left)) (c .before .before .before .before .before .before .before .before .before .before .read-net .ensures) (c .before .before .before .slack-read .ensures), c .before .tell-slacking .ensures)
 
 pub zombrict-slack-text-spec : {M : Type 1} → statement M
 zombrict-slack-text-spec =
