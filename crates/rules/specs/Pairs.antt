@@ -35,7 +35,7 @@ pub record NoWorse (a b : Pair) : Type 0 where
   pub load : a .load ≤ b .load
   pub time : b .time ≤ℤ a .time
 
--- and the two differ: one pair beats another. `Unbeaten`, below, is said without it; the law that it points at says it with it
+-- and the two differ. No promise needs this: it is the paper's word, and `listed-iff`, which `Unbeaten` points at, is said with it
 pub record Beats (a b : Pair) : Type 0 where
   pub noWorse : NoWorse a b
   pub differ : ¬ (a ≡ b)
