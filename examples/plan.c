@@ -1,4 +1,4 @@
-/* Plans net A twice, as text and as tables, shows the list at its row 1, and a refusal.
+/* Plans net A twice, as text and as tables, shows the list at its row 1, the loads of that list alone, and a refusal.
  *
  *   rt staticlib zombrict
  *   cc -Iinclude examples/plan.c target/staticlib/libzombrict.a -o target/plan-example && target/plan-example
@@ -76,12 +76,30 @@ static void list_row(size_t row)
     printf("\n");
 }
 
+/* For a display that reads loads only. */
+static void loads_of_row(size_t row)
+{
+    uint32_t list_loads[ZOMBRICT_LIST];
+    int64_t answer[ZOMBRICT_ANSWER];
+    uint32_t refusal = zombrict_loads(AREA(types), AREA(rows), AREA(due), 1, 3, row, AREA(list_loads),
+                                      AREA(loads), AREA(times), AREA(words), AREA(answer));
+    if (refusal != ZOMBRICT_DONE) {
+        printf("loads at row %zu: refused %" PRIu32 " at %" PRId64 "\n", row, refusal, answer[0]);
+        return;
+    }
+    printf("loads at row %zu:", row);
+    for (int64_t i = 0; i < answer[1]; i++)
+        printf(" %" PRIu32, list_loads[i]);
+    printf("\n");
+}
+
 int main(void)
 {
     plan_text("net A as text", "T\t2\t3\t10\nD\t20\nW\t0\t4\t5\t1\nS\t1\t6\t7\t0\t8\t1000\n");
     plan_tables();
     list_row(1);
     list_row(3);
+    loads_of_row(1);
     plan_text("a row that hangs on itself", "D\t20\nS\t1\t6\t7\t0\t8\t1000\n");
     return 0;
 }

@@ -111,10 +111,12 @@ enum {
     ZOMBRICT_STACK_SLACK = 61440,
     ZOMBRICT_STACK_PLAN = 40960,
     ZOMBRICT_STACK_LIST = 40960,
+    ZOMBRICT_STACK_LOADS = 40960,
     ZOMBRICT_STACK_CHECK_TEXT = 20480,
     ZOMBRICT_STACK_SLACK_TEXT = 69632,
     ZOMBRICT_STACK_PLAN_TEXT = 81920,
-    ZOMBRICT_STACK_LIST_TEXT = 81920
+    ZOMBRICT_STACK_LIST_TEXT = 81920,
+    ZOMBRICT_STACK_LOADS_TEXT = 81920
 };
 
 /* Reads a net from a text into the tables. Values: how many types, how many rows. Refusals: 7, 3 at 0, 1 to 5. */
@@ -165,6 +167,19 @@ uint32_t zombrict_list(const uint32_t *types, size_t types_length,
                        uint64_t *words, size_t words_length,
                        int64_t *answer, size_t answer_length);
 
+/* Writes the loads of that list alone, strictly rising, to an area of ZOMBRICT_LIST: zombrict_list with the times left out, and no area
+ * for them. Values: how many pairs, 0. Refusals: 7, 1 to 5, 8. */
+uint32_t zombrict_loads(const uint32_t *types, size_t types_length,
+                        const uint32_t *rows, size_t rows_length,
+                        const int64_t *due, size_t due_length,
+                        size_t type_count, size_t row_count,
+                        size_t row,
+                        uint32_t *list_loads, size_t list_loads_length,
+                        uint32_t *loads, size_t loads_length,
+                        int64_t *times, size_t times_length,
+                        uint64_t *words, size_t words_length,
+                        int64_t *answer, size_t answer_length);
+
 /* The same for a net given as text. Tables and work area are the call's own and stand on the stack. */
 
 /* Values: how many types, how many rows. Refusals: 7 for the answer only, 3 at 0, 1 to 5. */
@@ -187,6 +202,12 @@ uint32_t zombrict_list_text(const uint8_t *text, size_t text_length,
                             uint32_t *list_loads, size_t list_loads_length,
                             int64_t *list_times, size_t list_times_length,
                             int64_t *answer, size_t answer_length);
+
+/* Values: how many pairs, 0. Refusals: 7, 3 at 0, 1 to 5, 8. */
+uint32_t zombrict_loads_text(const uint8_t *text, size_t text_length,
+                             size_t row,
+                             uint32_t *list_loads, size_t list_loads_length,
+                             int64_t *answer, size_t answer_length);
 
 #ifdef __cplusplus
 }

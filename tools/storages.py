@@ -1,7 +1,8 @@
 #!/usr/bin/env python3
 """Runs every case of the vectors program through the records: a copy of the repository in which the crate `asked` asks `plan_records` and
 `list_records`, with a run made from the same stamped areas, and `rt try vectors` there. The output that is stored is what the columns
-give, so where it is met both storages give the same answers, the same lists and placements, and leave their areas alike.
+give, so where it is met both storages give the same answers, the same lists and placements, and leave their areas alike. The loads of a list
+alone are handed out of columns only: the copy asks `loads_at` as it stands.
 
 The copy is not proved: a caller that holds a run of its own is not covered.
 """

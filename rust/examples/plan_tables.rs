@@ -29,6 +29,7 @@ fn main() -> Result<(), Refusal> {
     println!("slack {} fs, load {} fF", planned.slack, planned.load);
     println!("marks of its two sites: {} {}", placement.mark(0), placement.mark(1));
     println!("unbeaten at row 1: {:?}", planner.list(&net, 1)?);
+    println!("their loads alone: {:?}", planner.loads(&net, 1)?);
 
     let mut wrong = net.clone();
     wrong.rows[2 * 6 + 1] = 3;

@@ -111,6 +111,8 @@ pub enum Ask {
     List(usize),
     /// The lists at all rows; only the reference's.
     Lists,
+    /// The loads of the list at a row alone.
+    Loads(usize),
     Slack([u64; 4]),
 }
 

@@ -99,14 +99,22 @@ pub fn slack_of(subject: &impl Entries, tables: Tables, placement: &[u64]) -> Ou
     same("slack_of", &got, &Reference.slack_of(tables, placement))
 }
 
-pub fn list_at(subject: &impl Entries, tables: Tables, row: usize, before: &Areas) -> Outcome {
+/// The list at a row, then its loads alone: the same answer and the same areas, but for the area of
+/// times, which is not lent. Both areas of the list are of one length, so both are refused alike.
+pub fn lists_at(subject: &impl Entries, tables: Tables, row: usize, before: &Areas) -> Outcome {
     fn list(e: &impl Entries, tables: Tables, row: usize, a: &mut Areas) -> Result<usize, Refusal> {
         let work = Columns { loads: &mut a.loads, times: &mut a.times, words: &mut a.words };
         e.list_at(tables, row, &mut a.list_loads, &mut a.list_times, work)
     }
+    let mut expected = run(before, |areas| list(&Reference, tables, row, areas));
     let got = run(before, |areas| list(subject, tables, row, areas));
-    let expected = run(before, |areas| list(&Reference, tables, row, areas));
-    same("list_at", &got, &expected)
+    same("list_at", &got, &expected)?;
+    let got = run(before, |a| {
+        let work = Columns { loads: &mut a.loads, times: &mut a.times, words: &mut a.words };
+        subject.loads_at(tables, row, &mut a.list_loads, work)
+    });
+    expected.1.list_times.clone_from(&before.list_times);
+    same("loads_at", &got, &expected)
 }
 
 pub fn list_records(subject: &impl Records, tables: Tables, row: usize, before: &Areas) -> Outcome {
@@ -141,8 +149,8 @@ pub fn plan_records(
 }
 
 /// Every entry on one net given as tables, at areas of these lengths, and the list at every row and
-/// past the last. The placement judged is what stands in the area by chance and one that marks
-/// sites of the net.
+/// past the last, with its times and without. The placement judged is what stands in the area by
+/// chance and one that marks sites of the net.
 pub fn every_entry(
     subject: &impl Entries,
     tables: &TableWords,
@@ -156,7 +164,7 @@ pub fn every_entry(
     slack_of(subject, tables, &areas.placement)?;
     slack_of(subject, tables, &marks(random, &tables))?;
     plan_net(subject, tables, &areas)?;
-    every_row(tables).try_for_each(|row| list_at(subject, tables, row, &areas))
+    every_row(tables).try_for_each(|row| lists_at(subject, tables, row, &areas))
 }
 
 /// The entries over records, likewise.

@@ -131,6 +131,15 @@ pub trait Entries {
         times: &mut [i64],
         work: Columns,
     ) -> Result<usize, Refusal>;
+
+    /// `list_at` with the times left out: the loads of the same list, and no area for its times.
+    fn loads_at(
+        &self,
+        tables: Tables,
+        row: usize,
+        loads: &mut [u32],
+        work: Columns,
+    ) -> Result<usize, Refusal>;
 }
 
 /// The two entries that use a work area, over a lent run of records in place of columns.

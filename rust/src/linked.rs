@@ -98,6 +98,28 @@ mod c {
             answer_length: usize,
         ) -> u32;
 
+        pub fn zombrict_loads(
+            types: *const u32,
+            types_length: usize,
+            rows: *const u32,
+            rows_length: usize,
+            due: *const i64,
+            due_length: usize,
+            type_count: usize,
+            row_count: usize,
+            row: usize,
+            list_loads: *mut u32,
+            list_loads_length: usize,
+            loads: *mut u32,
+            loads_length: usize,
+            times: *mut i64,
+            times_length: usize,
+            words: *mut u64,
+            words_length: usize,
+            answer: *mut i64,
+            answer_length: usize,
+        ) -> u32;
+
         pub fn zombrict_check_text(
             text: *const u8,
             text_length: usize,
@@ -131,6 +153,16 @@ mod c {
             list_loads_length: usize,
             list_times: *mut i64,
             list_times_length: usize,
+            answer: *mut i64,
+            answer_length: usize,
+        ) -> u32;
+
+        pub fn zombrict_loads_text(
+            text: *const u8,
+            text_length: usize,
+            row: usize,
+            list_loads: *mut u32,
+            list_loads_length: usize,
             answer: *mut i64,
             answer_length: usize,
         ) -> u32;
@@ -250,6 +282,23 @@ impl Entries for Linked {
         })
         .map(listed)
     }
+
+    fn loads_at(
+        &self,
+        tables: Tables,
+        row: usize,
+        loads: &mut [u32],
+        work: Columns,
+    ) -> Result<usize, Refusal> {
+        let list_loads = loads;
+        settled(|answer| {
+            call!(
+                zombrict_loads:
+                tables tables, number row, out list_loads, work work, out answer,
+            )
+        })
+        .map(listed)
+    }
 }
 
 /// The calls that take a net as text and have tables and work area of their own.
@@ -280,6 +329,11 @@ impl Linked {
             call!(zombrict_list_text: in text, number row, out loads, out times, out answer,)
         })
         .map(listed)
+    }
+
+    pub fn loads_text(&self, text: &[u8], row: usize, loads: &mut [u32]) -> Result<usize, Refusal> {
+        settled(|answer| call!(zombrict_loads_text: in text, number row, out loads, out answer,))
+            .map(listed)
     }
 
     /// One call whose answer's area may be of any length: how a short one is refused.

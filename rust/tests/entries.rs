@@ -44,6 +44,10 @@ enum Fault {
     ReadTooMuch,
     PlacementUnwritten,
     TieTurned,
+    LoadBeaten,
+    LoadPastEnd,
+    LoadsWorkLeft,
+    LoadsRowFirst,
 }
 
 /// Another placement with the same slack and load, where one mark less or changed has them.
@@ -115,6 +119,27 @@ impl Entries for Faulty {
         let length = Reference.list_at(tables, row, loads, times, work)?;
         Ok(length - usize::from(self.0 == Fault::ListCut && length > 1))
     }
+
+    fn loads_at(
+        &self,
+        tables: Tables,
+        row: usize,
+        loads: &mut [u32],
+        work: Columns,
+    ) -> Result<usize, Refusal> {
+        if self.0 == Fault::LoadsRowFirst && row >= tables.row_count {
+            return Err(Refusal::at(8, 0));
+        }
+        let lent = Columns { loads: work.loads, times: work.times, words: &mut *work.words };
+        let length = Reference.loads_at(tables, row, loads, lent)?;
+        work.words[0] = u64::from(self.0 == Fault::LoadsWorkLeft);
+        if matches!(self.0, Fault::LoadBeaten | Fault::LoadPastEnd) && length < room::LIST {
+            // A pair heavier than the last, which has the best time of all, is beaten.
+            loads[length] = loads[length - 1] + 1;
+            return Ok(length + usize::from(self.0 == Fault::LoadBeaten));
+        }
+        Ok(length)
+    }
 }
 
 impl Records for Faulty {
@@ -151,6 +176,10 @@ fn each_fault_is_found() {
         Fault::ReadTooMuch,
         Fault::PlacementUnwritten,
         Fault::TieTurned,
+        Fault::LoadBeaten,
+        Fault::LoadPastEnd,
+        Fault::LoadsWorkLeft,
+        Fault::LoadsRowFirst,
     ];
     for fault in faults {
         let mut random = Random::new(22);

@@ -4,10 +4,10 @@
 
 use zombrict::cases::print;
 use zombrict::conformance::{self, Areas};
-use zombrict::linked::{Linked, Planner};
+use zombrict::linked::{Area, Linked, Planner};
 use zombrict::random::{damage_tables, damage_text, Lengths, Random, Sketch};
 use zombrict::reference::{self, Reference};
-use zombrict::{recipe, room, Entries, Net, Placement, TableWords};
+use zombrict::{recipe, room, Entries, Net, Placement, Refusal, TableWords};
 
 fn shown(text: &[u8]) -> String {
     String::from_utf8_lossy(text).into_owned()
@@ -148,6 +148,7 @@ fn text_alike(text: &[u8], random: &mut Random) {
     let slack = Linked.slack_text(text, &marks.0);
     let planned = Linked.plan_text(text, &mut areas.placement);
     let list = Linked.list_text(text, row, &mut areas.list_loads, &mut areas.list_times);
+    loads_alike(text, &net, row, &before);
     match &net {
         Ok(net) if !short && !short_list => {
             let tables = net.tables();
@@ -188,7 +189,20 @@ fn text_alike(text: &[u8], random: &mut Random) {
     }
 }
 
-fn said(net: &Result<Net, zombrict::Refusal>) -> String {
+/// The loads at a row of a text: those of its tables, when nothing is refused before.
+fn loads_alike(text: &[u8], net: &Result<Net, Refusal>, row: usize, before: &Areas) {
+    let mut got = before.list_loads.clone();
+    let answer = Linked.loads_text(text, row, &mut got);
+    let mut loads = before.list_loads.clone();
+    let expected = match net {
+        _ if loads.len() < room::LIST => Err(Refusal::at(7, 0)),
+        Err(refusal) => Err(*refusal),
+        Ok(net) => Reference.loads_at(net.tables().lent(), row, &mut loads, Area::new().lent()),
+    };
+    assert_eq!((answer, got), (expected, loads), "row {row} of\n{}", shown(text));
+}
+
+fn said(net: &Result<Net, Refusal>) -> String {
     net.as_ref().map_or_else(|refusal| refusal.to_string(), |_| String::new())
 }
 
@@ -217,5 +231,7 @@ fn everyday_calls() {
     assert_eq!(planner.slack(&tables, placement), Ok(planned));
     assert_eq!(planner.list(&tables, 1), Ok(vec![(2, 855), (15, 910)]));
     assert_eq!(planner.list(&tables, 3).unwrap_err().to_string(), "refused 8 0");
+    assert_eq!(planner.loads(&tables, 1), Ok(vec![2, 15]));
+    assert_eq!(planner.loads(&tables, 3).unwrap_err().to_string(), "refused 8 0");
     assert_eq!(planner.read(b"").unwrap_err().to_string(), "refused 1 1");
 }

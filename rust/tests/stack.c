@@ -41,10 +41,12 @@ static void check_call(void) { refusal = zombrict_check(TABLES, AREA(answer)); }
 static void slack_call(void) { refusal = zombrict_slack(TABLES, AREA(placement), AREA(answer)); }
 static void plan_call(void) { refusal = zombrict_plan(TABLES, AREA(placement), WORK, AREA(answer)); }
 static void list_call(void) { refusal = zombrict_list(TABLES, asked_row, LIST, WORK, AREA(answer)); }
+static void loads_call(void) { refusal = zombrict_loads(TABLES, asked_row, AREA(list_loads), WORK, AREA(answer)); }
 static void check_text_call(void) { refusal = zombrict_check_text(text, text_length, AREA(answer)); }
 static void slack_text_call(void) { refusal = zombrict_slack_text(text, text_length, AREA(placement), AREA(answer)); }
 static void plan_text_call(void) { refusal = zombrict_plan_text(text, text_length, AREA(placement), AREA(answer)); }
 static void list_text_call(void) { refusal = zombrict_list_text(text, text_length, asked_row, LIST, AREA(answer)); }
+static void loads_text_call(void) { refusal = zombrict_loads_text(text, text_length, asked_row, AREA(list_loads), AREA(answer)); }
 
 static struct call {
     const char *name;
@@ -57,10 +59,12 @@ static struct call {
     {"zombrict_slack", slack_call, ZOMBRICT_STACK_SLACK, 0, 0},
     {"zombrict_plan", plan_call, ZOMBRICT_STACK_PLAN, 0, 0},
     {"zombrict_list", list_call, ZOMBRICT_STACK_LIST, 0, 0},
+    {"zombrict_loads", loads_call, ZOMBRICT_STACK_LOADS, 0, 0},
     {"zombrict_check_text", check_text_call, ZOMBRICT_STACK_CHECK_TEXT, 0, 1},
     {"zombrict_slack_text", slack_text_call, ZOMBRICT_STACK_SLACK_TEXT, 0, 1},
     {"zombrict_plan_text", plan_text_call, ZOMBRICT_STACK_PLAN_TEXT, 0, 1},
     {"zombrict_list_text", list_text_call, ZOMBRICT_STACK_LIST_TEXT, 0, 1},
+    {"zombrict_loads_text", loads_text_call, ZOMBRICT_STACK_LOADS_TEXT, 0, 1},
 };
 enum { CALLS = sizeof calls / sizeof calls[0] };
 

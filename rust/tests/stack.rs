@@ -12,6 +12,6 @@ fn no_call_needs_more_stack_than_stated() {
     let (said, told) =
         (String::from_utf8_lossy(&output.stderr), String::from_utf8_lossy(&output.stdout));
     assert!(output.status.success(), "{}: {said}", output.status);
-    assert_eq!(told.lines().filter(|line| line.contains(" needs ")).count(), 9, "{told}");
+    assert_eq!(told.lines().filter(|line| line.contains(" needs ")).count(), 11, "{told}");
     println!("{told}");
 }

@@ -33,6 +33,8 @@ const PLANNED: u64 = 0x706c616e6e6564;
 
 const LIST: u64 = 0x6c697374;
 
+const LOADS: u64 = 0x6c6f616473;
+
 // The greatest number that takes one byte more.
 const MOST_CODE: u64 = 0xff_ffff_ffff_ffff;
 
@@ -53,6 +55,7 @@ pub enum Word {
     Marks,
     Planned,
     List,
+    Loads,
     None,
 }
 
@@ -88,6 +91,7 @@ pub fn word_of(n: u64) -> Word {
         MARKS => Word::Marks,
         PLANNED => Word::Planned,
         LIST => Word::List,
+        LOADS => Word::Loads,
         _ => Word::None,
     }
 }
@@ -98,7 +102,7 @@ pub fn wanted(word: Word) -> usize {
         Word::Bytes | Word::Counts => 2,
         Word::Types | Word::Rows | Word::Due => 1,
         Word::Areas => 3,
-        Word::Slack => 5,
+        Word::Slack | Word::Loads => 5,
         Word::Plan => 4,
         Word::List => 6,
         _ => 0,
@@ -108,7 +112,7 @@ pub fn wanted(word: Word) -> usize {
 pub fn is_question(word: Word) -> bool {
     match word {
         Word::Read | Word::Check | Word::Slack | Word::Plan => true,
-        Word::Marks | Word::Planned | Word::List => true,
+        Word::Marks | Word::Planned | Word::List | Word::Loads => true,
         _ => false,
     }
 }

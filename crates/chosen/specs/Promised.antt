@@ -25,8 +25,8 @@ use Rattle.rules.specs.Tables.{tableEntries, tablesOf, countsOf}
 use Rattle.rules.specs.Net.{Tree, atRow}
 use Rattle.rules.specs.Pairs.{Pair}
 use Rattle.rules.specs.Answers.{Timing, planFigures, listFigures}
-use Rattle.rules.specs.Promises.{listRefusal, PlanOf, PlanPromise, ListOf, ListPromise, tabled}
-use Rattle.rules.specs.Areas.{Columns, columns, Lent, shortLent, columnsOf, listAreas, planAreas}
+use Rattle.rules.specs.Promises.{listRefusal, PlanOf, PlanPromise, ListOf, ListPromise, LoadsPromise, tabled}
+use Rattle.rules.specs.Areas.{Columns, columns, Lent, lentOf, shortLent, unseenTimes, columnsOf, listAreas, loadsAreas, planAreas}
 use Rattle.laws.specs.Tests.{both-false}
 use Rattle.laws.specs.Candidates.{Front}
 use Rattle.laws.specs.Method.{Reaches, planned, Proper}
@@ -53,6 +53,10 @@ entriesOf types rows due count n = tableEntries (tablesOf types rows due) (count
 
 abbrev pub timingOf : ℤ → ℕ → Timing
 timingOf slack load = record { slack = slack; load = load }
+
+-- of the list that list_at writes the loads; its times stand in an area that nobody sees
+abbrev pub LoadsOf : (es : List Entry) (row : ℕ) (before after : List ℕ) (len : ℕ) → Type 0
+LoadsOf es row before after len = (times : List ℤ) × ListOf es row (lentOf before unseenTimes) (lentOf after times) len
 
 -- a work area of exactly its room, and one that is all zero
 pub record Exact (ls : List ℕ) (ts : List ℤ) (ws : List ℕ) : Type 0 where
@@ -177,6 +181,9 @@ module _ {types rows : List ℕ} {due : List ℤ} {count n : ℕ} (P : Passed (t
         times-are : (ls : List ℕ) (ts : List ℤ) (ws : List ℕ) → w₁ ≡ run ls ts ws → Room ls ts ws → take len ts ≡ map (λ (c : Pair). c .time) (map pairOf (part 0 len w₁))
         times-are ls ts ws e r = sym (rw e (part-times ls ts ws len (omega (arith, M .fits, r .loads)) (omega (arith, M .fits, r .times))))
 
+    pub loads-of : (ls : List ℕ) (ts : List ℤ) (ws : List ℕ) → w₁ ≡ run ls ts ws → Room ls ts ws → (before after : List ℕ) → after ≡ take len ls ++ drop len before → LoadsOf (entriesOf types rows due count n) row before after len
+    loads-of ls ts ws e r before after a = (take len ts ++ drop len unseenTimes, list-of ls ts ws e r (lentOf before unseenTimes) (lentOf after (take len ts ++ drop len unseenTimes)) a refl)
+
     -- ---- the choice at the driver
     pub plan-of : row ≡ 0 → (before after : List ℕ) (slack : ℤ) (onDriver : ℕ) → Choice rows due w₁ len before after slack onDriver → PlanOf (entriesOf types rows due count n) before after (timingOf slack onDriver)
     plan-of z before after slack onDriver C = record {
@@ -232,6 +239,11 @@ module _ {types rows : List ℕ} {due : List ℤ} {count n : ℕ} (P : Passed (t
       → ListPromise columns (tabled (tablesOf types rows due) (countsOf count n)) row (listAreas before (columnsOf ls ts ws)) (Listed len) (listAreas after work′)
   unfolding ListPromise listFigures listRefusal shortLent orElse
   list-promise row before after len work′ inside a b list clear = rw (le-ltb _ _ a, le-ltb _ _ b, room-columns room, passed-own (tablesOf types rows due) (countsOf count n) P, lt-leb _ _ inside) (len, refl, list, clear)
+
+  pub loads-promise : (row : ℕ) (before after : List ℕ) (len : ℕ) (work′ : Columns) → row < n → listRoom ≤ length before → LoadsOf (entriesOf types rows due count n) row before after len → work′ ≡ columns .cleared (columnsOf ls ts ws)
+      → LoadsPromise columns (tabled (tablesOf types rows due) (countsOf count n)) row (loadsAreas before (columnsOf ls ts ws)) (Listed len) (loadsAreas after work′)
+  unfolding LoadsPromise
+  loads-promise row before after len work′ inside a (times, list) clear = (times, list-promise row (lentOf before unseenTimes) (lentOf after times) len work′ inside a (omega arith) list clear)
 
 -- ---- the rooms, from the tests in the code
 pub work-room : {ls : List ℕ} {ts : List ℤ} {ws : List ℕ} → shortBy (length ls) (length ts) (length ws) ≡ false → Room ls ts ws

@@ -1,4 +1,4 @@
-// What is chosen of the list at a row, in a work area of exactly its room: a placement at the driver, or the list itself.
+// What is chosen of the list at a row, in a work area of exactly its room: a placement at the driver, the list itself, or its loads.
 use picked::Timing;
 use rooms::WORK_ROOM;
 use rooms::links::LINKS_ROOM;
@@ -15,7 +15,7 @@ ghost use Rattle.columns.specs.Run.{run};
 ghost use Rattle.laws.specs.Picked.{PickedOf};
 ghost use Rattle.columns.specs.Made.{Room};
 ghost use Rattle.walks.specs.Made.{Made};
-ghost use Rattle.chosen.specs.Promised.{entriesOf, timingOf, Exact, Zeroed};
+ghost use Rattle.chosen.specs.Promised.{entriesOf, timingOf, Exact, Zeroed, LoadsOf};
 
 // The list at a row, made at the start of the work area.
 fn make(
@@ -102,4 +102,30 @@ pub fn list_in(
     entries::copies::copy_times(times, list_times, long);
     clearing::clear(loads, times, words, WORK_ROOM);
     long
+}
+
+// In a work area of exactly its room: of the list at a row the loads alone copied to the lent area, and the area left all zero.
+pub fn loads_in(
+    types: &[u32],
+    rows: &[u32],
+    due: &[i64],
+    count: usize,
+    n: usize,
+    row: usize,
+    list_loads: &mut [u32],
+    loads: &mut [u32],
+    times: &mut [i64],
+    words: &mut [u64],
+) -> usize
+    requires { ⌜ Passed (tablesOf (now types) (now rows) (now due)) (countsOf count n) ⌝ }
+    requires { ⌜ (row < n) × (listRoom ≤ length (now «list_loads»)) ⌝ }
+    requires { ⌜ Exact (now loads) (now times) (now words) ⌝ }
+    ensures listed { λ len. ⌜ LoadsOf (entriesOf (now (types .entry)) (now (rows .entry)) (now (due .entry)) count n) row (now («list_loads» .entry)) (now («list_loads» .exit)) len ⌝ }
+    ensures cleared { λ len. ⌜ Zeroed (now (loads .exit)) (now (times .exit)) (now (words .exit)) ⌝ }
+    ensures few { λ len. ⌜ len ≤ listRoom ⌝ }
+{
+    let len = make(types, rows, due, count, n, loads, times, words, row);
+    entries::copies::copy_words(loads, list_loads, len);
+    clearing::clear(loads, times, words, WORK_ROOM);
+    len
 }

@@ -10,9 +10,6 @@ use Rattle.rules.specs.Placements.{Placement}
 use Rattle.rules.specs.Slack.{wireDelay}
 use Rattle.laws.specs.Ranges.{mostLoad}
 use Rattle.units.specs.Times.{farTime}
-use Rattle.laws.specs.Integers.{minℤ}
-use Rattle.laws.specs.Joining.{joinMarks}
-use Rattle.laws.specs.Steps.{joined}
 use Rattle.laws.specs.Moves.{behind}
 use Rattle.columns.specs.Run.{blank, run, run-at, run-put, placeAt, Puts}
 use Rattle.columns.specs.Made.{Fit, fit-near, wireOf}
@@ -36,16 +33,6 @@ module _ (ls : List ℕ) (ts : List ℤ) (ws : List ℕ) (i : ℕ) (h : i < leng
       → run (set ls to shown) (set ts to t) ws′ ≡ set (run ls ts ws) to (behind (wireOf r c) (getD (run ls ts ws) i blank))
   unfolding behind wireDelay
   wired-store ws′ to r c shown t e f p = rw (run-at ls ts ws i h k, f, e) (run-put ls ts ws ws′ to _ _ _ p)
-
-  module _ (j : ℕ) (hj : j < length ls) (kj : j < length ts) where
-    pub joined-load : Fit (joined joinMarks (getD (run ls ts ws) i blank) (getD (run ls ts ws) j blank)) → getD ls i 0 + getD ls j 0 ≤ mostLoad
-    unfolding joined
-    joined-load f = (rw (run-at ls ts ws i h k, run-at ls ts ws j hj kj) at f) .load
-
-    pub joined-store : (ws′ : List ℕ) (o shown : ℕ) (t : ℤ) → shown ≡ getD ls i 0 + getD ls j 0 → t ≡ minℤ (getD ts i (pos 0)) (getD ts j (pos 0)) → Puts ws ws′ o (joinMarks (placeAt ws i) (placeAt ws j))
-        → run (set ls o shown) (set ts o t) ws′ ≡ set (run ls ts ws) o (joined joinMarks (getD (run ls ts ws) i blank) (getD (run ls ts ws) j blank))
-    unfolding joined
-    joined-store ws′ o shown t e f p = rw (run-at ls ts ws i h k, run-at ls ts ws j hj kj, f, e) (run-put ls ts ws ws′ o _ _ _ p)
 
 -- words put by marks
 pub puts-as : {ws ws′ : List ℕ} {i : ℕ} {p q : Placement} → Puts ws ws′ i p → p ≡ q → Puts ws ws′ i q

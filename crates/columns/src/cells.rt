@@ -1,4 +1,4 @@
-// One candidate in the columns: copied, put behind a wire or a repeater, joined with another; a sink's own.
+// One candidate in the columns: copied, put behind a wire or a repeater; a sink's own.
 use crate::placements;
 use rules::Femtofarad;
 use rules::Femtosecond;
@@ -13,9 +13,7 @@ ghost use Rattle.rules.specs.Quantities.{_⊖_, mostOhms, sitesRoom, workRoom};
 ghost use Rattle.laws.specs.Ranges.{mostLoad};
 ghost use Rattle.marks.specs.Marks.{marksEnd};
 ghost use Rattle.units.specs.Times.{Own, farTime};
-ghost use Rattle.laws.specs.Joining.{joinMarks};
 ghost use Rattle.laws.specs.Joining.{withMark};
-ghost use Rattle.laws.specs.Steps.{joined};
 ghost use Rattle.laws.specs.Moves.{behind};
 ghost use Rattle.columns.specs.Run.{blank, candidate, run};
 ghost use Rattle.columns.specs.Made.{Fit, Room, wireOf};
@@ -54,37 +52,6 @@ pub fn wired_at(
     loads[to] = shown;
     times[to] = time;
     placements::copy_words(words, from, to);
-}
-
-// The candidates at i and j joined, put at o.
-pub fn joined_at(
-    loads: &mut [u32],
-    times: &mut [i64],
-    words: &mut [u64],
-    i: usize,
-    j: usize,
-    o: usize,
-)
-    requires { ⌜ Room (now loads) (now times) (now words) ⌝ }
-    requires { ⌜ (i < workRoom) × ((j < workRoom) × (o < workRoom)) ⌝ }
-    requires { ⌜ Fit (joined joinMarks (getD (run (now loads) (now times) (now words)) i blank) (getD (run (now loads) (now times) (now words)) j blank)) ⌝ }
-    ensures { λ _. ⌜ run (now (loads .exit)) (now (times .exit)) (now (words .exit)) ≡ set (run (now (loads .entry)) (now (times .entry)) (now (words .entry))) o (joined joinMarks (getD (run (now (loads .entry)) (now (times .entry)) (now (words .entry))) i blank) (getD (run (now (loads .entry)) (now (times .entry)) (now (words .entry))) j blank)) ⌝ }
-{
-    let first = times[i];
-    let second = times[j];
-    let pair = pairs::joined(
-        Femtofarad(loads[i]),
-        Femtosecond(first),
-        Femtofarad(loads[j]),
-        Femtosecond(second),
-    );
-    let load = pair.load;
-    let t = pair.time;
-    let shown = load.0;
-    let time = t.0;
-    loads[o] = shown;
-    times[o] = time;
-    placements::join_words(words, i, j, o);
 }
 
 // A sink's one candidate, with no marks, put at a place.

@@ -6,22 +6,23 @@ use mathlib.Core.List.{List, [], _∷_}
 use Prim.Native.Nat.{ℕ, zero, suc, _*_, _/_, _%_, _^_, _<_}
 use native.Mathlib.Omega.{arith}
 use native.Mathlib.Nat.{zero-div, zero-mod, div-eq-of-lt, pow-le-pow-right}
+use lib.Dec.{ltb}
 use lib.IntN.{pos}
-use lib.ListN.{getD, replicate}
+use lib.ListN.{length, getD, replicate}
 use Rattle.rules.specs.declared.Reading.the-variants.{Read}
 use Rattle.rules.specs.declared.Checking.the-variants.{Accepted}
 use Rattle.rules.specs.declared.Slacking.the-variants.{Slack}
 use Rattle.rules.specs.declared.Planning.the-variants.{Planned as Plan}
 use Rattle.rules.specs.declared.Listing.the-variants.{Listed}
 use Rattle.rules.specs.Lists.{written}
-use Rattle.rules.specs.Quantities.{placementRoom, workRoom}
+use Rattle.rules.specs.Quantities.{placementRoom, listRoom, workRoom}
 use Rattle.rules.specs.Entries.{typesOf, rowsOf}
 use Rattle.rules.specs.Text.{textEntries, linesOf, lineOf, lettered, typeLine, driverLine, pointLine, sinkLine, parted, number, moreDigits, signed}
 use Rattle.rules.specs.Placements.{markIn, marks}
 use Rattle.examples.specs.Texts.{bytes, entries}
 use Rattle.rules.specs.Answers.{readFigures, checkFigures, slackFigures, planFigures, listFigures}
-use Rattle.rules.specs.Promises.{ReadPromise, CheckPromise, SlackPromise, PlanPromise, ListPromise, tabled}
-use Rattle.rules.specs.Areas.{Storage, Columns, columns, shortPlacement, Lent, shortLent, listAreas, planAreas}
+use Rattle.rules.specs.Promises.{ReadPromise, CheckPromise, SlackPromise, PlanPromise, ListPromise, LoadsPromise, tabled}
+use Rattle.rules.specs.Areas.{Storage, Columns, columns, shortPlacement, Lent, lentOf, shortLent, unseenTimes, listAreas, loadsAreas, planAreas}
 use Rattle.laws.specs.Method.{Proper}
 use Rattle.laws.specs.Listing.{listed-length}
 use Rattle.laws.specs.Settled.{one-tree}
@@ -116,6 +117,11 @@ module _ {W : Type 0} (s : Storage W) (work : W) (room : s .short work ≡ false
     where
       l : IsList netA 1 (paired (2, 855) ∷ paired (15, 910) ∷ [])
       l = examples .P3
+
+  -- loads_at row 1: 2, 15
+  pub loads-kept : (before : List ℕ) → ltb (length before) listRoom ≡ false → LoadsPromise s (tabled (tablesIn netA) (countsIn netA)) 1 (loadsAreas before work) (Listed 2) (loadsAreas (written (2 ∷ 15 ∷ []) before) (s .cleared work))
+  unfolding LoadsPromise shortLent
+  loads-kept before long = (written (pos 855 ∷ pos 910 ∷ []) unseenTimes, list-kept (lentOf before unseenTimes) (rw long refl))
 
 -- ---- a work area of full room
 unfoldable pub blankWork : Columns

@@ -6,3 +6,4 @@ pub mod Refused
 pub mod Kept
 pub mod StandIns
 pub mod StandInLists
+pub mod StandInLoads

@@ -64,7 +64,7 @@ thin-rising : (c : Candidate) {l : List Candidate} → EveryTwo Below l → Ever
 thin-rising c {l} r = front-in c (record { rising = r; sound = all-self l; whole = λ d e. any-imp (λ x q. rw q (covers-refl d)) e }) .rising
 
 -- the best as a pass holds it, with its mark
-chosen-is : (ts : List ℕ) (t k : ℕ) (x : Candidate) (l : List Candidate) (e : Pass) → candOf (e .held) ≡ best (delayOf (repeaterAt ts t .own) (repeaterAt ts t .resistance)) x l → e .worth .0 ≡ value (delayOf (repeaterAt ts t .own) (repeaterAt ts t .resistance)) (best (delayOf (repeaterAt ts t .own) (repeaterAt ts t .resistance)) x l)
+pub chosen-is : (ts : List ℕ) (t k : ℕ) (x : Candidate) (l : List Candidate) (e : Pass) → candOf (e .held) ≡ best (delayOf (repeaterAt ts t .own) (repeaterAt ts t .resistance)) x l → e .worth .0 ≡ value (delayOf (repeaterAt ts t .own) (repeaterAt ts t .resistance)) (best (delayOf (repeaterAt ts t .own) (repeaterAt ts t .resistance)) x l)
     → candidate (bufferAt ts t .input .0) (e .worth .0) (withMark k (t + 1) (marks (e .held .words))) ≡ chosenBy (repeaterAt ts t) (withMark k (t + 1)) (x ∷ l)
 unfolding chosenBy buffered repeaterAt bufferAt bufferOf
 chosen-is ts t k x l e f g = rw (g, ← f)

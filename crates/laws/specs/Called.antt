@@ -1,4 +1,4 @@
--- Each of the nine exported calls is settled: two results that its promise allows, what is returned and every lent word, are equal. One
+-- Each of the eleven exported calls is settled: two results that its promise allows, what is returned and every lent word, are equal. One
 -- theorem says it of any entry that is settled. Assumes nothing.
 use mathlib.Core.Path.{_≡_, sym, ap, _∙_}
 use mathlib.Core.Bool.{Bool, true, false}
@@ -9,11 +9,11 @@ use lib.IntN.{ℤ}
 use lib.ListN.{length}
 use Rattle.rules.specs.declared.Planning.{Planning}
 use Rattle.rules.specs.Tables.{Tables}
-use Rattle.rules.specs.Areas.{Storage, PlanAreas, ListAreas}
+use Rattle.rules.specs.Areas.{Storage, PlanAreas, ListAreas, LoadsAreas}
 use Rattle.rules.specs.Answers.{Figures, readFigures, checkFigures, slackFigures, planFigures, listFigures}
-use Rattle.rules.specs.Promises.{Handed, ReadPromise, CheckPromise, CountPromise, SlackPromise, PlanPromise, ListPromise}
-use Rattle.rules.specs.Calls.{answerRoom, countWords, noWords, timingWords, lengthWords, Crossed, Lending, Called, refuses, answers, Call, ReadCall, CheckCall, CountCall, SlackCall, PlanCall, ListCall}
-use Rattle.laws.specs.Settled.{read-settled, check-settled, count-settled, slack-settled, list-settled}
+use Rattle.rules.specs.Promises.{Handed, ReadPromise, CheckPromise, CountPromise, SlackPromise, PlanPromise, ListPromise, LoadsPromise}
+use Rattle.rules.specs.Calls.{answerRoom, countWords, noWords, timingWords, lengthWords, Crossed, Lending, Called, refuses, answers, Call, ReadCall, CheckCall, CountCall, SlackCall, PlanCall, ListCall, LoadsCall}
+use Rattle.laws.specs.Settled.{read-settled, check-settled, count-settled, slack-settled, list-settled, loads-settled}
 use Rattle.laws.specs.Picked.{Picks, Words64, plan-settled}
 
 -- an answer crosses in one way
@@ -57,6 +57,10 @@ slack-call-settled net words = call-settled timingWords slackFigures (λ m a n. 
 -- zombrict_list and zombrict_list_text
 pub list-call-settled : {W : Type 0} (s : Storage W) (net : Handed) (row : ℕ) (before : Lending (ListAreas W)) (r q : ℕ) (x y : Lending (ListAreas W)) → ListCall s net row before r x → ListCall s net row before q y → (r ≡ q) × (x ≡ y)
 list-call-settled s net row = call-settled lengthWords listFigures (ListPromise s net row) (list-settled s net row)
+
+-- zombrict_loads and zombrict_loads_text
+pub loads-call-settled : {W : Type 0} (s : Storage W) (net : Handed) (row : ℕ) (before : Lending (LoadsAreas W)) (r q : ℕ) (x y : Lending (LoadsAreas W)) → LoadsCall s net row before r x → LoadsCall s net row before q y → (r ≡ q) × (x ≡ y)
+loads-call-settled s net row = call-settled lengthWords listFigures (LoadsPromise s net row) (loads-settled s net row)
 
 -- zombrict_plan and zombrict_plan_text: with the clause that says which placement is returned
 pub plan-call-settled : {W : Type 0} (s : Storage W) (net : Handed) (before : Lending (PlanAreas W)) (r q : ℕ) (x y : Lending (PlanAreas W))

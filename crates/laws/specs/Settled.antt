@@ -1,12 +1,13 @@
 -- Each promise settles its entry: two answers, and two memories afterwards, that one promise allows are equal; for planning, with the
 -- clause that says which placement is returned. Assumes nothing.
-use mathlib.Core.Path.{_≡_, sym, ap, _∙_}
+use mathlib.Core.Path.{_≡_, refl, sym, ap, _∙_}
 use mathlib.Core.Bool.{false, _||_}
 use mathlib.Core.List.{List, map}
 use mathlib.Core.Logic.{_⊎_, inl, inr}
 use mathlib.Core.Option.{Option, none, some}
 use Prim.Native.Nat.{ℕ}
 use native.Mathlib.Omega.{arith}
+use lib.Dec.{ltb}
 use lib.IntN.{ℤ}
 use lib.ListN.{length}
 use Rattle.rules.specs.declared.Refusal.{Refusal}
@@ -16,15 +17,16 @@ use Rattle.rules.specs.declared.Slacking.{Slacking}
 use Rattle.rules.specs.declared.Planning.{Planning}
 use Rattle.rules.specs.declared.Listing.{Listing}
 use Rattle.rules.specs.Lists.{written}
+use Rattle.rules.specs.Quantities.{listRoom}
 use Rattle.rules.specs.Entries.{Entry, Repeater, typesOf, rowsOf}
 use Rattle.rules.specs.Placements.{Placement, marks}
 use Rattle.rules.specs.Tables.{Tables, shortTables}
 use Rattle.rules.specs.Net.{Tree, driverOhms}
 use Rattle.rules.specs.Slack.{loadOf, IsSlack}
 use Rattle.rules.specs.Pairs.{Planned}
-use Rattle.rules.specs.Areas.{shortPlacement, Lent, shortLent, Storage, PlanAreas, ListAreas}
+use Rattle.rules.specs.Areas.{shortPlacement, Lent, lentOf, shortLent, unseenTimes, Storage, PlanAreas, ListAreas, LoadsAreas, listAreas, loadsAreas}
 use Rattle.rules.specs.Answers.{Timing, noTiming, refused, done, planFigures, listFigures}
-use Rattle.rules.specs.Promises.{Handed, texted, netRefusal, Settled, ReadPromise, CheckPromise, CountPromise, SlackPromise, slackRefusal, TimingOf, PlanPromise, PlanOf, listRefusal, ListPromise, ListOf}
+use Rattle.rules.specs.Promises.{Handed, texted, netRefusal, Settled, ReadPromise, CheckPromise, CountPromise, SlackPromise, slackRefusal, TimingOf, PlanPromise, PlanOf, listRefusal, ListPromise, ListOf, LoadsPromise}
 use Rattle.laws.specs.Integers.{≤-antisym}
 use Rattle.laws.specs.Trees.{least-unique}
 use Rattle.laws.specs.Listing.{unbeaten-unique}
@@ -98,6 +100,40 @@ list-settled s net row before a b x y = either (listRefusal (shortLent (before .
     whereNot (i, p, f, h) (j, q, g, k) =
         let e = list-unique (net .entries) row (before .list) (x .list) (y .list) i j f g in
         (list-figures a b (p ∙ ap done (e .0) ∙ sym q), λ z. record { list = e .1 z; work = (h ∙ sym k) z })
+
+-- ---- loads_at
+-- of two lists written alike, with the work area, the loads and the work area
+loads-alone : {W : Type 0} {x y : Lent} {v w : W} → listAreas x v ≡ listAreas y w → loadsAreas (x .loads) v ≡ loadsAreas (y .loads) w
+loads-alone {W} e = ap (λ (m : ListAreas W). loadsAreas (m .list .loads) (m .work)) e
+
+-- a net, a row and the lent areas settle the answer and every lent word after
+pub loads-settled : {W : Type 0} (s : Storage W) (net : Handed) (row : ℕ) (before : LoadsAreas W) (a b : Listing) (x y : LoadsAreas W) → LoadsPromise s net row before a x → LoadsPromise s net row before b y → (a ≡ b) × (x ≡ y)
+unfolding LoadsPromise
+loads-settled s net row before a b x y (t, p) (u, q) =
+    let (e, m) = list-settled s net row (listAreas (lentOf (before .loads) unseenTimes) (before .work)) a b (listAreas (lentOf (x .loads) t) (x .work)) (listAreas (lentOf (y .loads) u) (y .work)) p q in
+    (e, loads-alone m)
+
+-- no list depends on what its area of times held, nor on how long that was beyond its room
+pub other-times : {W : Type 0} (s : Storage W) (net : Handed) (row : ℕ) (before after : Lent) (work work′ : W) (a : Listing) (times : List ℤ) → ltb (length (before .times)) listRoom ≡ false → ltb (length times) listRoom ≡ false
+    → ListPromise s net row (listAreas before work) a (listAreas after work′) → (times′ : List ℤ) × ListPromise s net row (listAreas (lentOf (before .loads) times) work) a (listAreas (lentOf (after .loads) times′) work′)
+unfolding ListPromise shortLent
+other-times {W} s net row before after work work′ a times e f p = rw f (go (listRefusal ((ltb (length (before .loads)) listRoom || false) || s .short work) net row) (rw e at p))
+  where
+    Stays : List ℤ → Refusal → Type 0
+    Stays t r = (listFigures a ≡ refused 0 r) × (listAreas (lentOf (after .loads) t) work′ ≡ listAreas (lentOf (before .loads) times) work)
+
+    Gives : List ℤ → Type 0
+    Gives t = (len : ℕ) × (listFigures a ≡ done len) × ListOf (net .entries) row (lentOf (before .loads) times) (lentOf (after .loads) t) len × (work′ ≡ s .cleared work)
+
+    go : (o : Option Refusal) → Settled o (λ r. (listFigures a ≡ refused 0 r) × (listAreas after work′ ≡ listAreas before work)) ((len : ℕ) × (listFigures a ≡ done len) × ListOf (net .entries) row before after len × (work′ ≡ s .cleared work)) → (t : List ℤ) × Settled o (Stays t) (Gives t)
+    go none (len, g, l, c) = (written (map (λ c. c .time) (l .list)) times, (len, g, record { tree = l .tree; tree-is = l .tree-is; list = l .list; unbeaten = l .unbeaten; few = l .few; long = l .long; loads = l .loads; times = refl }, c))
+    go (some r) (g, m) = (times, (g, ap (λ (x : LoadsAreas W). listAreas (lentOf (x .loads) times) (x .work)) (loads-alone m)))
+
+-- so where list_at has room for its times, loads_at gives the same answer and the same loads, and leaves the same work area
+pub loads-listed : {W : Type 0} (s : Storage W) (net : Handed) (row : ℕ) (before after : Lent) (work work′ : W) (a b : Listing) (y : LoadsAreas W) → ltb (length (before .times)) listRoom ≡ false
+    → ListPromise s net row (listAreas before work) a (listAreas after work′) → LoadsPromise s net row (loadsAreas (before .loads) work) b y → (a ≡ b) × (loadsAreas (after .loads) work′ ≡ y)
+unfolding LoadsPromise
+loads-listed s net row before after work work′ a b y e p q = loads-settled s net row (loadsAreas (before .loads) work) a b (loadsAreas (after .loads) work′) y (other-times s net row before after work work′ a unseenTimes e refl p) q
 
 -- ---- plan_net
 -- two planned placements have one slack and one load

@@ -117,6 +117,10 @@ pub fn pairs_kept(loads: &[u32], times: &[i64], l: usize, t: usize) -> bool {
     times_hold(times, t, times.len(), true)
 }
 
+pub fn words_kept(area: &[u32], from: usize) -> bool {
+    words_hold(area, from, area.len(), true)
+}
+
 pub fn marks_kept(area: &[u64], from: usize) -> bool {
     marks_hold(area, from, area.len(), true)
 }

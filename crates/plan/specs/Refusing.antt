@@ -4,6 +4,7 @@ use mathlib.Core.Bool.{true, false, _||_, or-true}
 use mathlib.Core.List.{List}
 use mathlib.Core.Option.{some, orElse}
 use Prim.Native.Nat.{ℕ, _≤_}
+use lib.Dec.{ltb}
 use lib.IntN.{ℤ}
 use lib.ListN.{length}
 use borrow.Author.Tests.{le-leb}
@@ -11,10 +12,11 @@ use Rattle.rules.specs.declared.Refusal.{Refusal}
 use Rattle.rules.specs.declared.Refusal.the-variants.{Short, NoRow}
 use Rattle.rules.specs.declared.Planning.the-variants.{Refused}
 use Rattle.rules.specs.declared.Listing.the-variants.{Refused as NotListed}
+use Rattle.rules.specs.Quantities.{listRoom}
 use Rattle.rules.specs.Tables.{Tables, Counts}
 use Rattle.rules.specs.Answers.{planFigures, listFigures}
-use Rattle.rules.specs.Promises.{listRefusal, PlanPromise, ListPromise, netRefusal, tabled}
-use Rattle.rules.specs.Areas.{columns, shortLent, shortPlacement, columnsOf, lentOf, listAreas, planAreas}
+use Rattle.rules.specs.Promises.{listRefusal, PlanPromise, ListPromise, LoadsPromise, netRefusal, tabled}
+use Rattle.rules.specs.Areas.{columns, shortLent, shortPlacement, unseenTimes, columnsOf, lentOf, listAreas, loadsAreas, planAreas}
 use Rattle.laws.specs.Checked.{Passed, passed-own, short-own}
 use Rattle.rooms.specs.Rooms.{shortBy, shortListBy}
 
@@ -58,3 +60,22 @@ module _ (t : Tables) (n : Counts) (ls : List ℕ) (ts : List ℤ) (ws : List �
       pub list-no-row : Passed t n → n .rows ≤ row → ListPromise columns (tabled t n) row (listAreas (lentOf lls lts) (columnsOf ls ts ws)) (NotListed NoRow) (listAreas (lentOf lls lts) (columnsOf ls ts ws))
       unfolding listRefusal columns shortLent orElse
       list-no-row P h = list-refused NoRow (rw (e, f, passed-own t n P, le-leb _ _ h))
+
+  -- ---- loads_at: as list_at refuses, with times that have their room
+  module _ (row : ℕ) (lls : List ℕ) where
+    pub loads-short-own : ltb (length lls) listRoom ≡ true → LoadsPromise columns (tabled t n) row (loadsAreas lls (columnsOf ls ts ws)) (NotListed Short) (loadsAreas lls (columnsOf ls ts ws))
+    unfolding LoadsPromise
+    loads-short-own e = (unseenTimes, list-short-own row lls unseenTimes (rw e refl))
+
+    pub loads-short-work : shortBy (length ls) (length ts) (length ws) ≡ true → LoadsPromise columns (tabled t n) row (loadsAreas lls (columnsOf ls ts ws)) (NotListed Short) (loadsAreas lls (columnsOf ls ts ws))
+    unfolding LoadsPromise
+    loads-short-work e = (unseenTimes, list-short-work row lls unseenTimes e)
+
+    module _ (e : ltb (length lls) listRoom ≡ false) (f : shortBy (length ls) (length ts) (length ws) ≡ false) where
+      pub loads-stopped : (r : Refusal) → netRefusal false (tabled t n) ≡ some r → LoadsPromise columns (tabled t n) row (loadsAreas lls (columnsOf ls ts ws)) (NotListed r) (loadsAreas lls (columnsOf ls ts ws))
+      unfolding LoadsPromise
+      loads-stopped r g = (unseenTimes, list-stopped row lls unseenTimes (rw e refl) f r g)
+
+      pub loads-no-row : Passed t n → n .rows ≤ row → LoadsPromise columns (tabled t n) row (loadsAreas lls (columnsOf ls ts ws)) (NotListed NoRow) (loadsAreas lls (columnsOf ls ts ws))
+      unfolding LoadsPromise
+      loads-no-row P h = (unseenTimes, list-no-row row lls unseenTimes (rw e refl) f P h)

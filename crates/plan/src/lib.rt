@@ -8,14 +8,15 @@ use rules::Refusal;
 ghost use Prim.Native.Nat.{_≤_};
 ghost use lib.ListN.{length};
 ghost use Rattle.rules.specs.Quantities.{placementRoom};
-ghost use Rattle.rules.specs.Promises.{CheckPromise, PlanPromise, ListPromise, tabled};
-ghost use Rattle.rules.specs.Areas.{columns, columnsOf, lentOf, listAreas, planAreas};
+ghost use Rattle.rules.specs.Promises.{CheckPromise, PlanPromise, ListPromise, LoadsPromise, tabled};
+ghost use Rattle.rules.specs.Areas.{columns, columnsOf, lentOf, listAreas, loadsAreas, planAreas};
 ghost use Rattle.rules.specs.Tables.{tablesOf, countsOf, tableEntries};
 ghost use Rattle.rules.specs.Answers.{planFigures};
 ghost use Rattle.laws.specs.Checked.{Passed};
 ghost use Rattle.laws.specs.Picked.{Picks};
 ghost use Rattle.columns.specs.Made.{Room};
 
+mod display;
 mod listing;
 
 // Of tables that were accepted. Of a longer work area the part beyond its room is not lent on.
@@ -151,6 +152,37 @@ pub fn list_at(
         row,
         list_loads,
         list_times,
+        loads,
+        times,
+        words,
+    )
+}
+
+// The loads alone of the unbeaten pairs at a row, written to the lent area; how many there are. What `list_at` gives, without the times.
+pub fn loads_at(
+    types: &[u32],
+    rows: &[u32],
+    due: &[i64],
+    type_count: usize,
+    row_count: usize,
+    row: usize,
+    list_loads: &mut [u32],
+    loads: &mut [u32],
+    times: &mut [i64],
+    words: &mut [u64],
+) -> Listing
+    ensures { λ r. ⌜ LoadsPromise columns (tabled (tablesOf (now (types .entry)) (now (rows .entry)) (now (due .entry))) (countsOf «type_count» «row_count»)) row (loadsAreas (now («list_loads» .entry)) (columnsOf (now (loads .entry)) (now (times .entry)) (now (words .entry)))) r (loadsAreas (now («list_loads» .exit)) (columnsOf (now (loads .exit)) (now (times .exit)) (now (words .exit)))) ⌝ }
+{
+    let checked = net::check_net(types, rows, due, type_count, row_count);
+    display::loads_checked(
+        checked,
+        types,
+        rows,
+        due,
+        type_count,
+        row_count,
+        row,
+        list_loads,
         loads,
         times,
         words,

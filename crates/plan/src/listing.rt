@@ -15,7 +15,7 @@ ghost use Rattle.laws.specs.Checked.{Passed};
 ghost use Rattle.columns.specs.Made.{Room};
 
 // A length of a list as it is answered.
-fn listed(len: usize) -> Listing
+pub fn listed(len: usize) -> Listing
     requires { ⌜ len ≤ listRoom ⌝ }
     ensures { λ r. ⌜ r ≡ Listing.Listed len ⌝ }
 {

@@ -121,7 +121,7 @@ module _ (ts ws : List ℕ) (ds : List ℤ) (count n : ℕ) (before : List ℕ) 
     P = rooms .1 .1
 
     module _ (w′ : List Cand) (e : Pass) (C : Chose ws ds ts count n w w′ e) (after : List ℕ) (r : Planning) (D : Told e before after r) where
-      choice : Choice ws ds (cands (C .run)) (C .len) before after (e .worth .0) (e .held .load .0)
+      pub choice : Choice ws ds (cands (C .run)) (C .len) before after (e .worth .0) (e .held .load .0)
       unfolding placeAt
       choice = record {
         chosen = candOf (e .held);

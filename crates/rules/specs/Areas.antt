@@ -25,6 +25,10 @@ lentOf loads times = record { loads = loads; times = times }
 unfoldable pub shortLent : Lent → Bool
 shortLent a = ltb (length (a .loads)) listRoom || ltb (length (a .times)) listRoom
 
+-- an area for the times of a list that nobody sees: exactly its room, all zero
+abbrev pub unseenTimes : List ℤ
+unseenTimes = replicate listRoom (pos 0)
+
 -- ---- the work area
 -- how a work area is kept: when it is shorter than its room, and what it is when its room is all zero
 pub record Storage (W : Type 0) : Type 0 where
@@ -71,8 +75,16 @@ pub record ListAreas (W : Type 0) : Type 0 where
   pub list : Lent
   pub work : W
 
+-- of a list the loads alone
+pub record LoadsAreas (W : Type 0) : Type 0 where
+  pub loads : List ℕ
+  pub work : W
+
 abbrev pub planAreas : {W : Type 0} → (placement : List ℕ) (work : W) → PlanAreas W
 planAreas placement work = record { placement = placement; work = work }
 
 abbrev pub listAreas : {W : Type 0} → (list : Lent) (work : W) → ListAreas W
 listAreas list work = record { list = list; work = work }
+
+abbrev pub loadsAreas : {W : Type 0} → (loads : List ℕ) (work : W) → LoadsAreas W
+loadsAreas loads work = record { loads = loads; work = work }

@@ -11,9 +11,9 @@ use Rattle.rules.specs.declared.Refusal.the-variants.{Short}
 use Rattle.rules.specs.Lists.{written}
 use Rattle.rules.specs.Tables.{Tables, Counts}
 use Rattle.rules.specs.Refusals.{numberOf}
-use Rattle.rules.specs.Areas.{Storage, PlanAreas, ListAreas}
+use Rattle.rules.specs.Areas.{Storage, PlanAreas, ListAreas, LoadsAreas}
 use Rattle.rules.specs.Answers.{Figures, Timing, readFigures, checkFigures, slackFigures, planFigures, listFigures}
-use Rattle.rules.specs.Promises.{Handed, ReadPromise, CheckPromise, CountPromise, SlackPromise, PlanPromise, ListPromise}
+use Rattle.rules.specs.Promises.{Handed, ReadPromise, CheckPromise, CountPromise, SlackPromise, PlanPromise, ListPromise, LoadsPromise}
 
 -- ---- how an answer crosses
 -- room: words of an answer
@@ -82,3 +82,7 @@ PlanCall s net = Call timingWords planFigures (PlanPromise s net)
 -- zombrict_list and zombrict_list_text
 abbrev pub ListCall : {W : Type 0} → Storage W → Handed → (row : ℕ) (before : Lending (ListAreas W)) (returned : ℕ) (after : Lending (ListAreas W)) → Type 0
 ListCall s net row = Call lengthWords listFigures (ListPromise s net row)
+
+-- zombrict_loads and zombrict_loads_text
+abbrev pub LoadsCall : {W : Type 0} → Storage W → Handed → (row : ℕ) (before : Lending (LoadsAreas W)) (returned : ℕ) (after : Lending (LoadsAreas W)) → Type 0
+LoadsCall s net row = Call lengthWords listFigures (LoadsPromise s net row)

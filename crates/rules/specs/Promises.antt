@@ -6,6 +6,7 @@ use mathlib.Core.List.{List, map}
 use mathlib.Core.Option.{Option, none, some, orElse}
 use Prim.Native.Nat.{ℕ, _+_, _*_, _≤_}
 use lib.Dec.{leb, ltb}
+use lib.IntN.{ℤ}
 use lib.ListN.{length}
 use Rattle.rules.specs.declared.Refusal.{Refusal}
 use Rattle.rules.specs.declared.Refusal.the-variants.{Room, Short, NoRow}
@@ -24,7 +25,7 @@ use Rattle.rules.specs.Placements.{marks, placementRefusal}
 use Rattle.rules.specs.Net.{Tree, atRow, driverOhms}
 use Rattle.rules.specs.Slack.{loadOf, IsSlack}
 use Rattle.rules.specs.Pairs.{Pair, Unbeaten, Reached, Planned, sitesOn}
-use Rattle.rules.specs.Areas.{shortPlacement, Lent, shortLent, Storage, PlanAreas, ListAreas}
+use Rattle.rules.specs.Areas.{shortPlacement, Lent, lentOf, shortLent, unseenTimes, Storage, PlanAreas, ListAreas, LoadsAreas, listAreas}
 use Rattle.rules.specs.Answers.{refused, done, Timing, noCounts, noTiming, readFigures, checkFigures, slackFigures, planFigures, listFigures}
 
 -- ---- a net as it is handed over, as tables or as a text
@@ -123,3 +124,9 @@ ListPromise s net row before answer after =
     Settled (listRefusal (shortLent (before .list) || s .short (before .work)) net row)
     (λ r. (listFigures answer ≡ refused 0 r) × (after ≡ before))
     ((len : ℕ) × (listFigures answer ≡ done len) × ListOf (net .entries) row (before .list) (after .list) len × (after .work ≡ s .cleared (before .work)))
+
+-- ---- loads_at
+-- what list_at promises, with the times in an area that nobody sees
+unfoldable pub LoadsPromise : {W : Type 0} → Storage W → Handed → (row : ℕ) (before : LoadsAreas W) → Listing → (after : LoadsAreas W) → Type 0
+LoadsPromise s net row before answer after =
+    (times : List ℤ) × ListPromise s net row (listAreas (lentOf (before .loads) unseenTimes) (before .work)) answer (listAreas (lentOf (after .loads) times) (after .work))

@@ -109,6 +109,7 @@ fn of_parts(
         Word::Marks => marks(best),
         Word::Planned => slack_line(slack::slack_of(types, rows, due, t, r, best)),
         Word::List => listing::list(types, rows, due, t, r, n),
+        Word::Loads => listing::loads_alone(types, rows, due, t, r, n),
         _ => saying::say(b" none"),
     }
 }

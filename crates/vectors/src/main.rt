@@ -14,6 +14,7 @@
 //   marks                   the placement that plan_net returned last
 //   planned                 slack_of: that placement
 //   list ROW P Q L T W      list_at: loads and times of the list, and the work, lent at these lengths
+//   loads ROW P L T W       loads_at: loads of the list, and the work, lent at these lengths
 //
 // A length is cut to the program's own area, which is longer than the room. A malformed request ends the run with `bad case`.
 // Before a call the areas that it may write are stamped. `kept` says that each word holds its stamp where the paper leaves it as

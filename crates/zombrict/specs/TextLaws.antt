@@ -4,6 +4,8 @@ use mathlib.Core.Bool.{Bool, true, false, _||_}
 use mathlib.Core.List.{List}
 use mathlib.Core.Option.{Option, none, some, orElse}
 use Prim.Native.Nat.{ℕ}
+use lib.Dec.{ltb}
+use lib.ListN.{length}
 use Rattle.rules.specs.declared.Refusal.{Refusal}
 use Rattle.rules.specs.declared.Refusal.the-variants.{Short}
 use Rattle.rules.specs.declared.Reading.{Reading}
@@ -15,16 +17,17 @@ use Rattle.rules.specs.declared.Planning.{Planning}
 use Rattle.rules.specs.declared.Planning.the-variants.{Refused as NotPlanned}
 use Rattle.rules.specs.declared.Listing.{Listing}
 use Rattle.rules.specs.declared.Listing.the-variants.{Refused as NotListed}
+use Rattle.rules.specs.Quantities.{listRoom}
 use Rattle.rules.specs.Entries.{Entry}
 use Rattle.rules.specs.Tables.{Tables, countsOf, shortTables, countsIn, filled, tableEntries}
 use Rattle.rules.specs.Text.{textEntries}
-use Rattle.rules.specs.Areas.{Columns, columns, unlent, Lent, PlanAreas, ListAreas, planAreas, listAreas, shortPlacement, shortLent}
+use Rattle.rules.specs.Areas.{Columns, columns, unlent, Lent, lentOf, PlanAreas, ListAreas, planAreas, listAreas, loadsAreas, shortPlacement, shortLent, unseenTimes}
 use Rattle.rules.specs.Answers.{Timing, refused, done, noCounts, noTiming, readFigures, slackFigures, planFigures, listFigures}
-use Rattle.rules.specs.Promises.{Handed, tabled, texted, netRefusal, Settled, ReadPromise, CountPromise, SlackPromise, slackRefusal, PlanPromise, PlanOf, ListPromise, listRefusal, ListOf}
+use Rattle.rules.specs.Promises.{Handed, tabled, texted, netRefusal, Settled, ReadPromise, CountPromise, SlackPromise, slackRefusal, PlanPromise, PlanOf, ListPromise, listRefusal, ListOf, LoadsPromise}
 use Rattle.laws.specs.Checked.{numbered}
 use Rattle.laws.specs.Picked.{Picks, numbered-picks}
 use Rattle.laws.specs.Reading.{ReadAs, not-read, was-read, read-as, tables-as-text}
-use Rattle.zombrict.specs.Texts.{noTables, noWork, SlackRead, PlanRead, PickRead, ListRead}
+use Rattle.zombrict.specs.Texts.{noTables, noWork, SlackRead, PlanRead, PickRead, ListRead, LoadsRead}
 
 -- ---- what was read, as the entry is handed it
 read-is : {b : Reading} {types rows m n : ℕ} → b ≡ Read types rows → m ≡ types → n ≡ rows → b ≡ Read m n
@@ -162,3 +165,19 @@ count-on-text text a t p = subst (λ (b : Bool). Settled (netRefusal b (texted t
     go : (o : Option Refusal) → Settled o (λ r. (readFigures a ≡ refused noCounts r) × (t ≡ noTables)) ((readFigures a ≡ done (countsIn (textEntries text))) × (t ≡ filled (textEntries text) noTables)) → Settled o (λ r. readFigures a ≡ refused noCounts r) (readFigures a ≡ done (countsIn (textEntries text)))
     go none (f, m) = f
     go (some r) (f, m) = f
+
+-- ---- the loads of a list alone
+pub loads-refused : {b : Reading} {r : Refusal} (t : Tables) (row : ℕ) (before : List ℕ) → b ≡ NotRead r → LoadsRead b t row before (NotListed r) before
+loads-refused t row before e = (unseenTimes, list-refused t row (lentOf before unseenTimes) e)
+
+pub loads-read : {b : Reading} {types rows m n : ℕ} (t : Tables) (row : ℕ) (before : List ℕ) (a : Listing) (after : List ℕ) (work : Columns) → b ≡ Read types rows → m ≡ types → n ≡ rows → LoadsPromise columns (tabled t (countsOf m n)) row (loadsAreas before noWork) a (loadsAreas after work) → LoadsRead b t row before a after
+unfolding LoadsPromise
+loads-read t row before a after work e p q (times, h) = (times, list-read t row (lentOf before unseenTimes) a (lentOf after times) work e p q h)
+
+pub loads-short : (text : List ℕ) (row : ℕ) (before : List ℕ) → ltb (length before) listRoom ≡ true → LoadsPromise unlent (texted text) row (loadsAreas before tt) (NotListed Short) (loadsAreas before tt)
+unfolding LoadsPromise shortLent
+loads-short text row before e = (unseenTimes, list-short text row (lentOf before unseenTimes) (rw e refl))
+
+pub loads-on-text : (text : List ℕ) (row : ℕ) (before after : List ℕ) (b : Reading) (t : Tables) (a : Listing) → ltb (length before) listRoom ≡ false → ReadPromise text noTables b t → LoadsRead b t row before a after → LoadsPromise unlent (texted text) row (loadsAreas before tt) a (loadsAreas after tt)
+unfolding LoadsPromise shortLent
+loads-on-text text row before after b t a s p (times, h) = (times, list-on-text text row (lentOf before unseenTimes) (lentOf after times) b t a (rw s refl) p h)

@@ -2,7 +2,7 @@
 use mathlib.Core.Path.{_≡_}
 use mathlib.Core.List.{List}
 use Prim.Native.Nat.{ℕ, _*_}
-use lib.IntN.{pos}
+use lib.IntN.{ℤ, pos}
 use lib.ListN.{replicate}
 use Rattle.rules.specs.declared.Reading.{Reading}
 use Rattle.rules.specs.declared.Reading.the-variants.{Read}
@@ -12,7 +12,7 @@ use Rattle.rules.specs.declared.Planning.{Planning}
 use Rattle.rules.specs.declared.Listing.{Listing}
 use Rattle.rules.specs.Quantities.{typesRoom, rowsRoom, placementRoom, workRoom}
 use Rattle.rules.specs.Tables.{Tables, tablesOf, countsOf, typeWords, rowWords, tableEntries}
-use Rattle.rules.specs.Areas.{Columns, columnsOf, columns, Lent, planAreas, listAreas}
+use Rattle.rules.specs.Areas.{Columns, columnsOf, columns, Lent, lentOf, unseenTimes, planAreas, listAreas}
 use Rattle.rules.specs.Answers.{refused, noTiming, slackFigures, planFigures, listFigures}
 use Rattle.rules.specs.Promises.{tabled, SlackPromise, PlanPromise, ListPromise}
 use Rattle.laws.specs.Picked.{Picks}
@@ -40,3 +40,7 @@ PickRead (NotRead r) t before after a = Unit {0}
 abbrev pub ListRead : Reading → (t : Tables) (row : ℕ) (before : Lent) → Listing → (after : Lent) → Type 0
 ListRead (Read types rows) t row before a after = (work : Columns) × ListPromise columns (tabled t (countsOf types rows)) row (listAreas before noWork) a (listAreas after work)
 ListRead (NotRead r) t row before a after = (listFigures a ≡ refused 0 r) × (after ≡ before)
+
+-- the loads alone: with the times in an area that nobody sees
+abbrev pub LoadsRead : Reading → (t : Tables) (row : ℕ) (before : List ℕ) → Listing → (after : List ℕ) → Type 0
+LoadsRead read t row before a after = (times : List ℤ) × ListRead read t row (lentOf before unseenTimes) a (lentOf after times)

@@ -6,6 +6,7 @@ ghost use Rattle.rules.specs.Promises.{tabled};
 ghost use Rattle.rules.specs.Calls.{lending, ReadCall, CheckCall, SlackCall, PlanCall, ListCall};
 ghost use Rattle.laws.specs.Picked.{Picks};
 
+mod display;
 mod texts;
 
 // A net as text, read into the lent tables. The values answered are the counts of types and rows.

@@ -1,6 +1,6 @@
 //! Nets to be planned: the examples of document 01, what wrong thinning loses, and every limit.
 
-use super::Ask::{List, Lists, Plan, Slack};
+use super::Ask::{List, Lists, Loads, Plan, Slack};
 use super::By::{Document, Hand, Reference};
 use super::PlanCase;
 
@@ -21,6 +21,8 @@ pub const EXAMPLES: &[PlanCase] = &[
             (List(1), "2 855 15 910", Document),
             (List(0), "7 827 20 830", Document),
             (List(2), "8 1000", Hand),
+            (Loads(1), "2 15", Document),
+            (Loads(0), "7 20", Document),
         ],
     },
     PlanCase {
@@ -48,6 +50,7 @@ pub const EXAMPLES: &[PlanCase] = &[
             (List(2), "2 966 8 1000", Hand),
             (List(3), "2 850 30 950", Hand),
             (List(0), "19 774", Hand),
+            (Loads(1), "14 42", Document),
         ],
     },
     PlanCase {
@@ -64,6 +67,7 @@ pub const EXAMPLES: &[PlanCase] = &[
             (List(2), "4 20 8 38", Hand),
             (List(3), "4 12 8 30", Hand),
             (Plan, "slack 20 load 17 buffers", Hand),
+            (Loads(1), "9 13 17", Document),
         ],
     },
     // At row 1 the type gives (5, 0), which (5, 70) beats.
@@ -76,7 +80,7 @@ pub const EXAMPLES: &[PlanCase] = &[
     PlanCase {
         name: "beaten-behind-wire",
         recipe: r#""T\t20\t0\t200\nD\t0\nW\t0\t0\t0\t0\nS\t1\t10\t0\t1\t45\t500\n""#,
-        asked: &[(List(2), "20 300 45 500", Hand), (List(1), "20 100", Document), (Plan, "slack 100 load 20 buffers 2 1", Hand)],
+        asked: &[(List(2), "20 300 45 500", Hand), (List(1), "20 100", Document), (Plan, "slack 100 load 20 buffers 2 1", Hand), (Loads(1), "20", Document)],
     },
 ];
 
@@ -251,6 +255,8 @@ pub const PLACEMENTS: &[PlanCase] = &[
             (List(3), "refused 8 0", Document),
             (List(256), "refused 8 0", Document),
             (List(4294967295), "refused 8 0", Document),
+            (Loads(3), "refused 8 0", Document),
+            (Loads(4294967295), "refused 8 0", Document),
         ],
     },
     PlanCase {
@@ -288,7 +294,7 @@ pub const LIMITS: &[PlanCase] = &[
     PlanCase {
         name: "star-all-limits",
         recipe: r#""D\t100000\n" + repeat 255 "S\t0\t100000\t100000\t0\t100000\t-1000000000000\n""#,
-        asked: &[(Plan, "slack -6120000000000 load 51000000 buffers", Hand), (List(0), "51000000 -1020000000000", Hand)],
+        asked: &[(Plan, "slack -6120000000000 load 51000000 buffers", Hand), (List(0), "51000000 -1020000000000", Hand), (Loads(0), "51000000", Hand)],
     },
     // Wire k from the end drives k × 100,000 and the pin: 100,000² × (2 + … + 256), and the driver's.
     PlanCase {
@@ -325,7 +331,7 @@ pub const LIMITS: &[PlanCase] = &[
     PlanCase {
         name: "longest-list",
         recipe: r#""T\t1\t0\t1000000000\nT\t2\t0\t900000000\nT\t3\t0\t800000000\nT\t4\t0\t700000000\nD\t1\n" + each 1 64 "S\t0\t0\t0\t1\t{100+i}\t{1000000000+i*1000003}\n" + repeat 191 "S\t0\t0\t0\t0\t1\t1000000000000\n""#,
-        asked: &[(Plan, "", Reference), (List(0), "", Reference), (List(64), "", Reference)],
+        asked: &[(Plan, "", Reference), (List(0), "", Reference), (List(64), "", Reference), (Loads(0), "", Reference)],
     },
     PlanCase {
         name: "zero-wires-256",

@@ -64,6 +64,7 @@ pub fn answer_plan(case: &PlanCase) -> Vec<(String, String, By)> {
                 let asked = format!("slack {a} {b} {c} {d}");
                 answers.push((asked, slack_words(&net, Placement(words)), by));
             }
+            Ask::Loads(row) => answers.push((format!("loads {row}"), loads_words(&net, row), by)),
             Ask::Lists => {
                 for row in 0..net.rows().len() {
                     answers.push((format!("list {row}"), list_words(&net, row), by));
@@ -84,11 +85,18 @@ fn plan_words(net: &Net) -> String {
 }
 
 fn list_words(net: &Net, row: usize) -> String {
+    each_pair(net, row, |pair| format!("{} {}", pair.load, pair.time))
+}
+
+fn loads_words(net: &Net, row: usize) -> String {
+    each_pair(net, row, |pair| pair.load.to_string())
+}
+
+fn each_pair(net: &Net, row: usize, words: impl Fn(&Pair) -> String) -> String {
     if row >= net.rows().len() {
         return "refused 8 0".to_string();
     }
-    let pairs = reference::list_at(net, row);
-    let pairs: Vec<String> = pairs.iter().map(|p| format!("{} {}", p.load, p.time)).collect();
+    let pairs: Vec<String> = reference::list_at(net, row).iter().map(words).collect();
     pairs.join(" ")
 }
 
@@ -181,6 +189,7 @@ const PLAN_HEADER: &str = "\
 # plan: slack S load L buffers .. the greatest slack, its least load on the driver, and the
 #                                 repeaters of the placement returned, row and type of each
 # list ROW: LOAD TIME ...         the unbeaten pairs at the row, loads rising
+# loads ROW: LOAD ...             their loads alone
 # slack W W W W: slack S load L   of the placement of these four words
 #
 # An answer may be `refused NUMBER PLACE`. After ` ; ` stands the source, as in read.txt.

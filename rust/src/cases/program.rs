@@ -15,6 +15,8 @@ const ROOM: [usize; 4] = [room::PLACEMENT, room::WORK, room::WORK, room::WORK * 
 /// A longer area, whose part beyond the room is neither read nor changed.
 const LONGER: [usize; 4] = [6, 800, 800, 3100];
 
+const LONGER_LIST: usize = 300;
+
 const TABLE_ROOM: [usize; 3] =
     [room::TYPES * room::TYPE_WORDS, room::ROWS * room::ROW_WORDS, room::ROWS];
 
@@ -145,6 +147,7 @@ fn every_entry(script: &mut Script, tables: &TableWords) {
     slack(script, tables, room::PLACEMENT, [0; 4]);
     plan(script, tables, ROOM);
     list(script, tables, 0, [room::LIST; 2], ROOM);
+    loads(script, tables, 0, room::LIST, ROOM);
 }
 
 fn slack(script: &mut Script, tables: &TableWords, length: usize, placement: [u64; 4]) {
@@ -198,6 +201,20 @@ fn list(
     script.ask(&format!("list {row} {} {lengths}", words(pairs)), &answer);
 }
 
+fn loads(script: &mut Script, tables: &TableWords, row: usize, list: usize, lengths: [usize; 4]) {
+    let (_, mut loads, mut times, mut words_) = work(lengths);
+    let columns = Columns { loads: &mut loads, times: &mut times, words: &mut words_ };
+    let mut list_loads = vec![0; list];
+    let answer = match Reference.loads_at(tables.lent(), row, &mut list_loads, columns) {
+        Err(refusal) => format!("{refusal} kept"),
+        Ok(length) => {
+            format!("length {length} loads {} kept cleared", words(&list_loads[..length]))
+        }
+    };
+    let lengths = words(lengths.into_iter().skip(1));
+    script.ask(&format!("loads {row} {list} {lengths}"), &answer);
+}
+
 fn plan_case(script: &mut Script, case: &PlanCase) {
     let text = recipe::make(case.recipe);
     let net = Net::read(&text).expect("a net to be planned is a good one");
@@ -212,6 +229,7 @@ fn plan_case(script: &mut Script, case: &PlanCase) {
         match ask {
             Ask::Plan => planned(script, &net, &tables),
             Ask::List(row) => list(script, &tables, row, [room::LIST; 2], ROOM),
+            Ask::Loads(row) => loads(script, &tables, row, room::LIST, ROOM),
             Ask::Slack(placement) => slack(script, &tables, room::PLACEMENT, placement),
             Ask::Lists => {
                 (0..rows).for_each(|row| list(script, &tables, row, [room::LIST; 2], ROOM))
@@ -252,6 +270,22 @@ fn lengths(script: &mut Script, case: &PlanCase) {
         }
         list(script, tables, 9, [256, 257], ROOM);
         list(script, tables, usize::MAX, [room::LIST; 2], ROOM);
+        loads_lengths(script, tables);
+    }
+}
+
+/// The same of the loads alone, which are lent no placement; and the rows just inside the net and
+/// just past it.
+fn loads_lengths(script: &mut Script, tables: &TableWords) {
+    for lengths in near(ROOM).into_iter().filter(|lengths| lengths[0] == ROOM[0]) {
+        loads(script, tables, 1, room::LIST, lengths);
+    }
+    for list in [0, room::LIST - 1, room::LIST + 1, LONGER_LIST] {
+        loads(script, tables, 1, list, LONGER);
+    }
+    loads(script, tables, 9, room::LIST - 1, ROOM);
+    for row in [tables.row_count - 1, tables.row_count, usize::MAX] {
+        loads(script, tables, row, room::LIST, ROOM);
     }
 }
 

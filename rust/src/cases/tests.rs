@@ -30,11 +30,13 @@ fn plans_as_said_by_hand() {
             let asked = match ask {
                 Ask::Plan => "plan".to_string(),
                 Ask::List(row) => format!("list {row}"),
+                Ask::Loads(row) => format!("loads {row}"),
                 Ask::Slack([a, b, c, d]) => format!("slack {a} {b} {c} {d}"),
                 Ask::Lists => continue,
             };
             let (_, answer, _) = answers.iter().find(|answer| answer.0 == asked).unwrap();
-            let all = matches!(ask, Ask::List(_) | Ask::Plan) && !by_hand.is_empty();
+            let all =
+                matches!(ask, Ask::List(_) | Ask::Loads(_) | Ask::Plan) && !by_hand.is_empty();
             let right = if all { answer == by_hand } else { agrees(answer, by_hand) };
             assert!(right || by_hand.is_empty(), "{} {asked}: {answer}", case.name);
         }

@@ -78,4 +78,11 @@ impl Planner {
             Linked.list_at(tables.lent(), row, &mut loads, &mut times, self.work.lent())?;
         Ok(loads.into_iter().zip(times).take(length).collect())
     }
+
+    /// The loads of that list alone, rising.
+    pub fn loads(&mut self, tables: &TableWords, row: usize) -> Result<Vec<u32>, Refusal> {
+        let mut loads = [0; room::LIST];
+        let length = Linked.loads_at(tables.lent(), row, &mut loads, self.work.lent())?;
+        Ok(loads[..length].to_vec())
+    }
 }

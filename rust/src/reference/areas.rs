@@ -19,13 +19,20 @@ fn planned(pair: Pair) -> Planned {
     Planned { slack: pair.time, load: pair.load as u32 }
 }
 
+/// Writes the loads of the list into their area and gives its length.
+fn hand_out_loads(list: &[Pair], loads: &mut [u32]) -> usize {
+    for (index, pair) in list.iter().enumerate() {
+        loads[index] = pair.load as u32;
+    }
+    list.len()
+}
+
 /// Writes the list into its areas and gives its length.
 fn hand_out(list: &[Pair], loads: &mut [u32], times: &mut [i64]) -> usize {
     for (index, pair) in list.iter().enumerate() {
-        loads[index] = pair.load as u32;
         times[index] = pair.time;
     }
-    list.len()
+    hand_out_loads(list, loads)
 }
 
 fn list_of(tables: &Tables, row: usize) -> Result<Vec<Pair>, Refusal> {
@@ -93,6 +100,19 @@ impl Entries for Reference {
         let list = list_of(&tables, row)?;
         work.clear();
         Ok(hand_out(&list, loads, times))
+    }
+
+    fn loads_at(
+        &self,
+        tables: Tables,
+        row: usize,
+        loads: &mut [u32],
+        mut work: Columns,
+    ) -> Result<usize, Refusal> {
+        refuse_short(loads.len() < room::LIST || work.short())?;
+        let list = list_of(&tables, row)?;
+        work.clear();
+        Ok(hand_out_loads(&list, loads))
     }
 }
 

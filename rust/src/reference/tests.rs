@@ -1,5 +1,6 @@
 use super::lists::{self, meet, Choice};
 use super::*;
+use crate::entries::{Columns, Entries};
 use crate::net::{Net, Placement, Refusal};
 use crate::random::{damage_text, Random, Sketch};
 use crate::room;
@@ -164,6 +165,36 @@ fn large_nets_keep_their_promises() {
             assert!((tried.time, -tried.load) <= (best.pair.time, -best.pair.load));
             assert!((0..=51_200_000).contains(&tried.load));
             assert!((-3_000_000_000_000_000..=1_000_000_000_000).contains(&tried.time));
+        }
+    }
+}
+
+/// The loads at a row, as the entry hands them out.
+fn loads_at(net: &Net, row: usize) -> Vec<i64> {
+    let mut loads = [0; room::LIST];
+    let work = Columns {
+        loads: &mut [0; room::WORK],
+        times: &mut [0; room::WORK],
+        words: &mut [0; room::WORK * room::PLACEMENT],
+    };
+    let length = Reference.loads_at(net.tables().lent(), row, &mut loads, work).expect("a row");
+    loads[..length].iter().map(|&load| load.into()).collect()
+}
+
+/// The loads alone are those of the lists of P3, P4 and P7, and of the lists that search finds.
+#[test]
+fn loads_are_those_of_the_lists() {
+    assert_eq!(loads_at(&net_a(), 1), [2, 15]);
+    assert_eq!(loads_at(&net_a(), 0), [7, 20]);
+    assert_eq!(loads_at(&net_b(), 1), [14, 42]);
+    let mut random = Random::new(5);
+    for _ in 0..1_000 {
+        let mut sketch = Sketch::any(&mut random, 9, 8);
+        sketch.sites = [8, 8, 6, 5, 4][sketch.types];
+        let net = sketch.net(&mut random);
+        for (row, list) in search::lists(&net).iter().enumerate() {
+            let searched: Vec<i64> = list.iter().map(|pair| pair.load).collect();
+            assert_eq!(loads_at(&net, row), searched, "row {row} of\n{}", net.text());
         }
     }
 }

@@ -32,8 +32,8 @@ loop-holds c =
     let w = run (a .loads .now) (a .times .now) (a .words .now) in
     (omega arith, omega arith, s .pre .0, record { loads = omega arith; times = omega arith; words = omega arith }, joining-start w (a .at) (a .m) (a .n) p (pair-room (s .pre .0) p))
 
-joined-at-requires : tie.Need-joined-at-requires Inv-loop μ-loop
-joined-at-requires c κs =
+turn-at-requires : tie.Need-turn-at-requires Inv-loop μ-loop
+turn-at-requires c κs =
     let s = c .before .before .before .before .before .before .before .before in
     let l = c .before .before .before .before .before .loop in
     let t = l .inv .4 in
@@ -71,7 +71,7 @@ loop-less c =
     let l = c .before .before .before .before .before .before .before .before .before .before .before .before .before .before .before .loop in
     let t = l .inv .4 in
     let a = c .before .before .before .before .before .before .before .before .before .before .before .before .before .before .before .before .before .before .args in
-    let x = c .before .before .before .before .before .before .before .before .before .joined-at .last .1 .0 in
+    let x = c .before .before .before .before .before .before .before .before .before .turn-at .last .1 .0 in
     let k : l .j < a .at + a .m = omega (arith, ltb-true, c .before .before .before .before .before .before .before .before .before .before .before .before .before .if1 .taken) in
     let u = not-both (getD x (l .i) (pos 0)) (getD x (l .j) (pos 0)) (c .before .before .later-at .result) (c .later-at2 .result) (c .before .before .later-at .ensures .1) (c .later-at2 .ensures .1) in
     omega (arith, t .of-first, t .of-second)
@@ -82,9 +82,9 @@ loop-again c =
     let a = s .args in
     let l = c .before .before .before .before .before .before .before .before .before .before .before .before .before .before .before .loop in
     let t = l .inv .4 in
-    let x = c .before .before .before .before .before .before .before .before .before .joined-at .last in
+    let x = c .before .before .before .before .before .before .before .before .before .turn-at .last in
     let k : l .j < a .at + a .m = omega (arith, ltb-true, c .before .before .before .before .before .before .before .before .before .before .before .before .before .if1 .taken) in
-    (l .inv .0, l .inv .1, l .inv .2, record { loads = omega arith; times = omega arith; words = omega arith }, joining-again _ _ (x .0) (x .1 .0) (x .1 .1 .0) (a .at) (a .m) (a .n) (l .i) (l .j) (l .o) (c .before .before .later-at .result) (c .later-at2 .result) t (omega arith) k (omega (arith, s .pre .1 .place)) (omega (arith, s .pre .1 .place)) (c .before .before .before .before .before .before .before .before .before .joined-at .ensures) (c .before .before .later-at .ensures .1) (c .later-at2 .ensures .1))
+    (l .inv .0, l .inv .1, l .inv .2, record { loads = omega arith; times = omega arith; words = omega arith }, joining-again _ _ (x .0) (x .1 .0) (x .1 .1 .0) (a .at) (a .m) (a .n) (l .i) (l .j) (l .o) (c .before .before .later-at .result) (c .later-at2 .result) t (omega arith) k (omega (arith, s .pre .1 .place)) (omega (arith, s .pre .1 .place)) (c .before .before .before .before .before .before .before .before .before .turn-at .ensures) (c .before .before .later-at .ensures .1) (c .later-at2 .ensures .1))
 
 same-length : tie.Need-same-length Inv-loop μ-loop
 same-length c = omega arith
@@ -127,7 +127,7 @@ merge-lists-spec =
     add-mid
     add-end
     loop-holds
-    joined-at-requires
+    turn-at-requires
     later-at-requires
     sub-first
     later-at-requires-2

@@ -1,0 +1,12 @@
+pub mod Alike
+pub mod Reads
+pub mod Steps
+pub mod Choices
+pub mod Puts
+pub mod Jobs
+pub mod Hangs
+pub mod Ends
+pub mod Rows
+pub mod Every
+pub mod Work
+pub mod Entries
