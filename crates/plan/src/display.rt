@@ -5,7 +5,6 @@ use rooms::PLACEMENT_ROOM;
 use rooms::WORK_ROOM;
 use rules::Checking;
 use rules::Listing;
-use rules::Refusal;
 ghost use Prim.Native.Nat.{_≤_, _<_};
 ghost use lib.ListN.{length};
 ghost use Rattle.rules.specs.Quantities.{listRoom};
@@ -50,7 +49,7 @@ fn loads_accepted(
     listing::listed(len)
 }
 
-// Of tables that were checked: refusal 7 for the entry's own areas comes first, and 8 last.
+// Of tables that were checked.
 pub fn loads_checked(
     checked: Checking,
     types: &[u32],
@@ -67,32 +66,21 @@ pub fn loads_checked(
     requires { ⌜ CheckPromise (tabled (tablesOf (now types) (now rows) (now due)) (countsOf count n)) checked ⌝ }
     ensures { λ r. ⌜ LoadsPromise columns (tabled (tablesOf (now (types .entry)) (now (rows .entry)) (now (due .entry))) (countsOf count n)) row (loadsAreas (now («list_loads» .entry)) (columnsOf (now (loads .entry)) (now (times .entry)) (now (words .entry)))) r (loadsAreas (now («list_loads» .exit)) (columnsOf (now (loads .exit)) (now (times .exit)) (now (words .exit)))) ⌝ }
 {
-    let short = rooms::short_area(list_loads.len());
-    if short {
-        return Listing::Refused(Refusal::Short);
-    }
-    let short = rooms::short_work(loads.len(), times.len(), words.len());
-    if short {
-        return Listing::Refused(Refusal::Short);
-    }
-    match checked {
+    let own = rooms::short_area(list_loads.len());
+    let work = rooms::short_work(loads.len(), times.len(), words.len());
+    match listing::judged(checked, own, work, n, row) {
         Checking::Refused(r) => Listing::Refused(r),
-        Checking::Accepted => {
-            if n <= row {
-                return Listing::Refused(Refusal::NoRow);
-            }
-            loads_accepted(
-                types,
-                rows,
-                due,
-                count,
-                n,
-                row,
-                list_loads,
-                loads,
-                times,
-                words,
-            )
-        }
+        Checking::Accepted => loads_accepted(
+            types,
+            rows,
+            due,
+            count,
+            n,
+            row,
+            list_loads,
+            loads,
+            times,
+            words,
+        ),
     }
 }

@@ -13,6 +13,7 @@ ghost use Rattle.rules.specs.Areas.{columns, columnsOf, lentOf, listAreas};
 ghost use Rattle.rules.specs.Tables.{tablesOf, countsOf};
 ghost use Rattle.laws.specs.Checked.{Passed};
 ghost use Rattle.columns.specs.Made.{Room};
+ghost use Rattle.plan.specs.Refusing.{judgedBy};
 
 // A length of a list as it is answered.
 pub fn listed(len: usize) -> Listing
@@ -20,6 +21,27 @@ pub fn listed(len: usize) -> Listing
     ensures { λ r. ⌜ r ≡ Listing.Listed len ⌝ }
 {
     Listing::Listed { length: len as u32 }
+}
+
+// What a list, or its loads alone, is refused for, of tables that were checked: 7 for the entry's own areas or the work first, and 8 last.
+pub fn judged(checked: Checking, own: bool, work: bool, n: usize, row: usize) -> Checking
+    ensures { λ r. ⌜ r ≡ judgedBy checked own work n row ⌝ }
+{
+    if own {
+        return Checking::Refused(Refusal::Short);
+    }
+    if work {
+        return Checking::Refused(Refusal::Short);
+    }
+    match checked {
+        Checking::Refused(r) => Checking::Refused(r),
+        Checking::Accepted => {
+            if n <= row {
+                return Checking::Refused(Refusal::NoRow);
+            }
+            Checking::Accepted
+        }
+    }
 }
 
 // Of tables that were accepted. Of a longer work area the part beyond its room is not lent on.
@@ -59,7 +81,7 @@ fn list_accepted(
     listed(len)
 }
 
-// Of tables that were checked: refusal 7 for the entry's own areas comes first, and 8 last.
+// Of tables that were checked.
 pub fn list_checked(
     checked: Checking,
     types: &[u32],
@@ -77,33 +99,22 @@ pub fn list_checked(
     requires { ⌜ CheckPromise (tabled (tablesOf (now types) (now rows) (now due)) (countsOf count n)) checked ⌝ }
     ensures { λ r. ⌜ ListPromise columns (tabled (tablesOf (now (types .entry)) (now (rows .entry)) (now (due .entry))) (countsOf count n)) row (listAreas (lentOf (now («list_loads» .entry)) (now («list_times» .entry))) (columnsOf (now (loads .entry)) (now (times .entry)) (now (words .entry)))) r (listAreas (lentOf (now («list_loads» .exit)) (now («list_times» .exit))) (columnsOf (now (loads .exit)) (now (times .exit)) (now (words .exit)))) ⌝ }
 {
-    let short = rooms::short_list(list_loads.len(), list_times.len());
-    if short {
-        return Listing::Refused(Refusal::Short);
-    }
-    let short = rooms::short_work(loads.len(), times.len(), words.len());
-    if short {
-        return Listing::Refused(Refusal::Short);
-    }
-    match checked {
+    let own = rooms::short_list(list_loads.len(), list_times.len());
+    let work = rooms::short_work(loads.len(), times.len(), words.len());
+    match judged(checked, own, work, n, row) {
         Checking::Refused(r) => Listing::Refused(r),
-        Checking::Accepted => {
-            if n <= row {
-                return Listing::Refused(Refusal::NoRow);
-            }
-            list_accepted(
-                types,
-                rows,
-                due,
-                count,
-                n,
-                row,
-                list_loads,
-                list_times,
-                loads,
-                times,
-                words,
-            )
-        }
+        Checking::Accepted => list_accepted(
+            types,
+            rows,
+            due,
+            count,
+            n,
+            row,
+            list_loads,
+            list_times,
+            loads,
+            times,
+            words,
+        ),
     }
 }
