@@ -1,5 +1,7 @@
 // How an answer crosses to a caller that has numbers and areas only: the number of a refusal is returned, 0 where there is none, and
 // its place and the entry's two values stand in the answer's area.
+#![tactic(auto)]
+
 ghost use Rattle.std.specs.Prelude.{◌≡◌, [], ◌∷◌, ◌≤◌, pos, length};
 ghost use Rattle.rules.specs.Lists.{written};
 ghost use Rattle.rules.specs.Refusals.{number_of, place_of};

@@ -5,7 +5,7 @@ use rules::Listing;
 use work::{Left, WORDS, WORK};
 
 // What it gave, and what it left.
-#[derive(Drop)]
+#[derive(Clone, Copy)]
 pub struct Listed {
     pub answer: Listing,
     pub left: Left,

@@ -8,7 +8,7 @@ use work::{Left, WORDS, WORK};
 const PLACEMENT: usize = 6;
 
 // What it gave, and what it left.
-#[derive(Drop)]
+#[derive(Clone, Copy)]
 pub struct Planned {
     pub answer: Planning,
     pub left: Left,

@@ -8,7 +8,7 @@ pub const WORDS: usize = 3100;
 
 // What a call left: whether each word holds its stamp where the paper leaves it as it was, and whether the room of the work area is all
 // zero.
-#[derive(Drop)]
+#[derive(Clone, Copy)]
 pub struct Left {
     pub kept: bool,
     pub cleared: bool,

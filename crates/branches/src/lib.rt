@@ -1,5 +1,7 @@
 // Where two lists meet: both are walked together, each once, always moving past the earlier time. Nothing that is so made is ever
 // beaten, so there is no thinning.
+#![tactic(auto)]
+
 ghost use Rattle.std.specs.Prelude.{◌≡◌, ◌+◌, ◌≤◌, ◌<◌, length, get_or, set};
 ghost use Rattle.rules.specs.Quantities.{work_room};
 ghost use Rattle.laws.specs.Ranges.{most_load};

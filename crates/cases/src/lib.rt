@@ -1,5 +1,7 @@
 // The input of the program `vectors`: its requests read, and what they set up. Nothing here says anything: what is written stands in
 // the program.
+#![tactic(auto)]
+
 pub mod lines;
 pub mod numbers;
 pub mod places;

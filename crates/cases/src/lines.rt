@@ -7,7 +7,7 @@ const LINE_FEED: u8 = b'\n';
 const BLANK: u8 = b' ';
 
 // A line's numbers: how many, and the place past the line.
-#[derive(Drop)]
+#[derive(Clone, Copy)]
 pub enum Line {
     Of(usize, usize),
     Bad,

@@ -14,20 +14,20 @@ const MOST: u64 = 18_446_744_073_709_551_615;
 const MOST_TIME: u64 = 9_223_372_036_854_775_807;
 
 // A number, with the place after it.
-#[derive(Drop)]
+#[derive(Clone, Copy)]
 pub enum Number {
     At(u64, usize),
     Bad,
 }
 
 // A signed number, with the place after it.
-#[derive(Drop)]
+#[derive(Clone, Copy)]
 pub enum Time {
     At(i64, usize),
     Bad,
 }
 
-#[derive(Drop)]
+#[derive(Clone, Copy)]
 enum Digit {
     Is(u64),
     Not,

@@ -2,7 +2,7 @@
 use rooms::{ROWS_AREA, ROWS_ROOM, TYPES_AREA};
 
 // Where the program stands: the next request, the case's name, the text's length, the lengths lent and the counts.
-#[derive(Drop)]
+#[derive(Clone, Copy)]
 pub struct Place {
     pub at: usize,
     pub name: usize,
@@ -15,7 +15,7 @@ pub struct Place {
     pub row_count: usize,
 }
 
-#[derive(Drop)]
+#[derive(Clone, Copy)]
 pub enum Step {
     Next(Place),
     Bad,

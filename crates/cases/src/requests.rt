@@ -5,7 +5,7 @@ use places::{Place, Step};
 use words::Word;
 
 // A request that is over, as the naming of a case is, or one still to be done: its word, and the place after its line.
-#[derive(Drop)]
+#[derive(Clone, Copy)]
 pub enum Request {
     Over(Step),
     Of(Word, Place),

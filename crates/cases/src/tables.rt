@@ -6,14 +6,14 @@ use numbers::{Number, Time};
 const MOST_WORD: u64 = 4_294_967_295;
 
 // Where the request after the words starts.
-#[derive(Drop)]
+#[derive(Clone, Copy)]
 pub enum Taken {
     Up(usize),
     Bad,
 }
 
 // A word, with the place after the byte that ends it.
-#[derive(Drop)]
+#[derive(Clone, Copy)]
 enum Word {
     At(u32, usize),
     Bad,

@@ -39,7 +39,7 @@ const LOADS: u64 = 0x6c6f616473;
 const MOST_CODE: u64 = 0xff_ffff_ffff_ffff;
 
 // What a line's first word asks.
-#[derive(Drop)]
+#[derive(Clone, Copy)]
 pub enum Word {
     Case,
     Text,

@@ -1,4 +1,6 @@
 // One line by value: what it states, and the first of 1, 2, 3, 4 that it is refused for after those that have passed.
+#![tactic(auto)]
+
 use repeaters::Buffer;
 use rules::{Femtofarad, Ohm, Pin, Refusal};
 
@@ -6,7 +8,7 @@ pub mod lines;
 pub mod ranges;
 
 // The wire of a row: the row above it, and what is there. The site is still a field's number.
-#[derive(Drop)]
+#[derive(Clone, Copy)]
 pub struct Wire {
     pub parent: u32,
     pub resistance: Ohm,
@@ -15,7 +17,7 @@ pub struct Wire {
 }
 
 // What a line states, or the refusal of its form.
-#[derive(Drop)]
+#[derive(Clone, Copy)]
 pub enum Line {
     Repeater(Buffer),
     Driver(Ohm),
@@ -25,7 +27,7 @@ pub enum Line {
 }
 
 // How many types, rows and sites have passed.
-#[derive(Drop)]
+#[derive(Clone, Copy)]
 pub struct Passed {
     pub types: usize,
     pub rows: usize,

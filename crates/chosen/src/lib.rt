@@ -1,4 +1,6 @@
 // What is chosen of the list at a row, in a work area of exactly its room: a placement at the driver, the list itself, or its loads.
+#![tactic(auto)]
+
 ghost use Rattle.std.specs.Prelude.{◌≤◌, ◌<◌, length};
 ghost use Rattle.rules.specs.Quantities.{placement_room, list_room};
 ghost use Rattle.rules.specs.Promises.{PlanOf, ListOf};

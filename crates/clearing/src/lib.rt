@@ -1,4 +1,6 @@
 // The work area left all zero.
+#![tactic(auto)]
+
 ghost use Rattle.std.specs.Prelude.{◌≡◌, ◌++◌, ◌*◌, ◌≤◌, pos, length, drop, replicate};
 ghost use Rattle.rules.specs.Quantities.{placement_room};
 

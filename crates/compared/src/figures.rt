@@ -1,7 +1,7 @@
 // What is compared of an answer: of a refusal its number and place, of a plan its slack and load, of a list its length.
 use rules::{Listing, Planning, Refusal};
 
-#[derive(Drop)]
+#[derive(Clone, Copy)]
 pub struct Figures {
     pub refusal: u32,
     pub place: u32,

@@ -1,4 +1,6 @@
 // What the program `storages` does without saying anything: the nets of its input parted, and two answers compared.
+#![tactic(auto)]
+
 pub mod figures;
 pub mod parting;
 pub mod same;

@@ -1,4 +1,6 @@
 // The pairs of a list in the run, written to lent areas: the run is only read.
+#![tactic(auto)]
+
 ghost use Rattle.std.specs.Prelude.{◌≡◌, ◌≤◌, ◌<◌, length, set};
 ghost use Rattle.copying.specs.Copied.{copied, loads_of, times_of};
 

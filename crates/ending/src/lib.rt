@@ -1,4 +1,6 @@
 // After the last line: the driver is there, and each row that is no sink has a row below it.
+#![tactic(auto)]
+
 ghost use Rattle.std.specs.Prelude.{◌≡◌, ◌+◌, ◌*◌, ◌≤◌, ◌<◌, length, replicate};
 ghost use Rattle.rules.specs.Tables.{words_a_row};
 ghost use Rattle.rules.specs.Quantities.{rows_room};
@@ -12,14 +14,14 @@ use rooms::{ROW_WORDS, ROWS_ROOM};
 use rules::Refusal;
 
 // What taking a line gives, or all lines: what has passed then, or the refusal.
-#[derive(Drop)]
+#[derive(Clone, Copy)]
 pub enum Taking {
     Taken(Passed),
     Refused(Refusal),
 }
 
 // A row number, or none.
-#[derive(Drop)]
+#[derive(Clone, Copy)]
 pub enum Found {
     At(usize),
     Nothing,

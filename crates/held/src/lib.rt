@@ -1,4 +1,6 @@
 // The planner on a run of records of its own: each entry holds the run for its call, all zero, and lends it to the planner over records.
+#![tactic(auto)]
+
 ghost use Rattle.std.specs.Prelude.{◌≡◌};
 ghost use Rattle.rules.specs.Promises.{PlanPromise, ListPromise, tabled};
 ghost use Rattle.rules.specs.Areas.{records, lent_of, list_areas, plan_areas, blank_run};

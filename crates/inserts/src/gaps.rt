@@ -86,7 +86,7 @@ pub fn past_from(
 }
 
 // The new one belongs between `from` and `past`, unless it is covered.
-#[derive(Drop)]
+#[derive(Clone, Copy)]
 pub struct Gap {
     pub covered: bool,
     pub from: usize,

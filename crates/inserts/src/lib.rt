@@ -1,5 +1,7 @@
 // One candidate put into a list. The list may start later than its place while this goes on, so that as a rule only what stands
 // before the new one has to move.
+#![tactic(auto)]
+
 pub mod gaps;
 
 ghost use Rattle.std.specs.Prelude.{◌+◌, ◌≤◌, ◌<◌};
@@ -63,7 +65,7 @@ pub fn fill(
 }
 
 // Where a list starts and ends.
-#[derive(Drop)]
+#[derive(Clone, Copy)]
 pub struct Bounds {
     pub start: usize,
     pub end: usize,

@@ -1,5 +1,7 @@
 // What is done with a row's own list, pass by pass. At its site: its pin is put down, the best behind each type is chosen, and each is put
 // in. Then it goes through the row's wire, and is joined with the list that waits before it.
+#![tactic(auto)]
+
 ghost use Rattle.std.specs.Prelude.{◌≤◌};
 ghost use Rattle.rules.specs.Quantities.{types_room};
 ghost use Rattle.jobs.specs.Jobs.{Able, Worked, RowIn, site_at, hang_at};

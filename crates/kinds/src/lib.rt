@@ -1,4 +1,6 @@
 // What a row is by its numbers: a driver, a plain point or a sink, and how it moves the number of the next site on.
+#![tactic(auto)]
+
 ghost use Rattle.std.specs.Prelude.{◌≡◌, ◌+◌, ◌≤◌};
 ghost use Rattle.rules.specs.Entries.{site_count};
 ghost use Rattle.rules.specs.Quantities.{rows_room};

@@ -40,6 +40,7 @@ module _ {A : Type 0} {P Q : A → Type 0} where
 
   -- the element that is Q is P too
   pub any-all : {l : List A} → All P l → Any Q l → (x : A) × P x × Q x
+  any-all nil h = elim h [ ]
   any-all (cons {x = x} h t) (here q) = (x, h, q)
   any-all (cons h t) (there q) = any-all t q
 
@@ -49,6 +50,7 @@ module _ {A : Type 0} {P Q S : A → Type 0} (f : (x : A) → P x → Q x → S 
   all-with (cons {x = x} p ps) (cons q qs) = cons (f x p q) (all-with ps qs)
 
   pub any-with : {l : List A} → All P l → Any Q l → Any S l
+  any-with nil h = elim h [ ]
   any-with (cons {x = x} p ps) (here q) = here (f x p q)
   any-with (cons p ps) (there q) = there (any-with ps q)
 
@@ -93,14 +95,17 @@ pub data Met {A : Type 0} (R : A → A → Type 0) (P Q : A → Type 0) : Type 0
 
 module _ {A : Type 0} {R : A → A → Type 0} {P Q : A → Type 0} where
   met-first : (x : A) {l : List A} → P x → All (R x) l → Any Q l → Met R P Q
+  met-first x p nil h = elim h [ ]
   met-first x p (cons {x = y} r t) (here q) = first x y r p q
   met-first x p (cons r t) (there q) = met-first x p t q
 
   met-second : (y : A) {l : List A} → Q y → All (R y) l → Any P l → Met R P Q
+  met-second y q nil h = elim h [ ]
   met-second y q (cons {x = x} r t) (here p) = second x y r p q
   met-second y q (cons r t) (there p) = met-second y q t p
 
   pub met : {l : List A} → EveryTwo R l → Any P l → Any Q l → Met R P Q
+  met ends h k = elim h [ ]
   met (leads {x = x} r t) (here p) (here q) = same x p q
   met (leads {x = x} r t) (here p) (there q) = met-first x p r q
   met (leads {x = x} r t) (there p) (here q) = met-second x q r p

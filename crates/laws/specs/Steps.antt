@@ -53,7 +53,7 @@ module _ {W : Type 0} (delay : ℕ → ℕ) where
   pub best-all : {P : Cand W → Type 0} (x : Cand W) (l : List (Cand W)) → All P (x ∷ l) → P (best x l)
   unfolding best pick
   best-all x [] (cons p t) = p
-  best-all {P} x (y ∷ l) (cons p (cons q t)) = best-all _ l (cons (go (≤-or-< (value y) (value x))) t)
+  best-all {P} x (y ∷ l) (cons p (cons q t)) = best-all (pick x y (≤-or-< (value y) (value x))) l (cons (go (≤-or-< (value y) (value x))) t)
     where
       go : (s : (value y ≤ℤ value x) ⊎ (value x <ℤ value y)) → P (pick x y s)
       go (inl h) = p

@@ -65,7 +65,7 @@ module _ {W : Type 0} where
   climb-up : (z : Cand W) {l : List (Cand W)} → EveryTwo Lighter (z ∷ l) → All (Up z) (climb z l)
   unfolding climb
   climb-up z {l = []} s = cons {x = z} (omega times) nil
-  climb-up z {l = c ∷ l} (leads (cons n ns) (leads m ms)) = go (lt_z z.time c.time) (lt-true z.time c.time) (climb-up z (leads ns ms)) (climb-up c (leads m ms))
+  climb-up z {l = c ∷ l} (leads (cons n ns) (leads m ms)) = go (lt_z z.time c.time) (lt-true z.time c.time) (climb-up z {l = l} (leads ns ms)) (climb-up c {l = l} (leads m ms))
     where
       go : (b : Bool) → (b ≡ true → z.time <ℤ c.time) → All (Up z) (climb z l) → All (Up c) (climb c l) → All (Up z) (cond b (z ∷ climb c l) (climb z l))
       go true f a b = let h = f refl in cons {x = z} (omega times) (all-imp (λ y u. omega times) b)
@@ -74,7 +74,7 @@ module _ {W : Type 0} where
   climb-rising : (z : Cand W) {l : List (Cand W)} → EveryTwo Lighter (z ∷ l) → EveryTwo Below (climb z l)
   unfolding climb
   climb-rising z {l = []} s = leads nil ends
-  climb-rising z {l = c ∷ l} (leads (cons n ns) (leads m ms)) = go (lt_z z.time c.time) (lt-true z.time c.time) (climb-rising z (leads ns ms)) (climb-rising c (leads m ms)) (climb-up c (leads m ms))
+  climb-rising z {l = c ∷ l} (leads (cons n ns) (leads m ms)) = go (lt_z z.time c.time) (lt-true z.time c.time) (climb-rising z {l = l} (leads ns ms)) (climb-rising c {l = l} (leads m ms)) (climb-up c (leads m ms))
     where
       go : (b : Bool) → (b ≡ true → z.time <ℤ c.time) → EveryTwo Below (climb z l) → EveryTwo Below (climb c l) → All (Up c) (climb c l) → EveryTwo Below (cond b (z ∷ climb c l) (climb z l))
       go true f a b u = let h = f refl in leads {x = z} (all-imp (λ y w. omega times) u) b
@@ -83,7 +83,7 @@ module _ {W : Type 0} where
   climb-keeps : (z : Cand W) {d : Cand W} {l : List (Cand W)} → EveryTwo Lighter (z ∷ l) → Covered (z ∷ l) d → Covered (climb z l) d
   unfolding climb
   climb-keeps z {d} {l = []} s k = k
-  climb-keeps z {d} {l = c ∷ l} (leads (cons n ns) (leads m ms)) k = go (lt_z z.time c.time) (lt-false z.time c.time) k (climb-keeps z (leads ns ms)) (climb-keeps c (leads m ms))
+  climb-keeps z {d} {l = c ∷ l} (leads (cons n ns) (leads m ms)) k = go (lt_z z.time c.time) (lt-false z.time c.time) k (climb-keeps z {d = d} {l = l} (leads ns ms)) (climb-keeps c {d = d} {l = l} (leads m ms))
     where
       go : (b : Bool) → (b ≡ false → c.time ≤ℤ z.time) → Covered (z ∷ c ∷ l) d → (Covered (z ∷ l) d → Covered (climb z l) d) → (Covered (c ∷ l) d → Covered (climb c l) d) → Covered (cond b (z ∷ climb c l) (climb z l)) d
       go true f (here k) a b = here k

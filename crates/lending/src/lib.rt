@@ -1,3 +1,5 @@
 // Areas that are lent to an entry: stamped before, looked at after, and summed.
+#![tactic(auto)]
+
 pub mod stamps;
 pub mod sums;

@@ -2,7 +2,7 @@
 use rooms::wide;
 
 // The sum of the words passed, and of all such sums: taken from the last word to the first, that is word times position.
-#[derive(Drop)]
+#[derive(Clone, Copy)]
 pub struct Sum {
     pub words: u64,
     pub sums: u64,

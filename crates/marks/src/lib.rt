@@ -1,5 +1,7 @@
 // The words of a placement: sixteen marks of four bits to a word, four words. One mark is read or set by shifts and masks, and the
 // words of two placements are joined by or.
+#![tactic(auto)]
+
 ghost use Rattle.std.specs.Prelude.{◌≡◌, ◌≤◌, ◌<◌, length};
 ghost use Rattle.rules.specs.Quantities.{sites_room, placement_room};
 ghost use Rattle.rules.specs.Placements.{mark_in, marks};

@@ -1,5 +1,7 @@
 // A net read from text, and a net given as tables. Both go entry by entry: a line of the text, or the words of a table's entry, is
 // checked after what has passed, and counted.
+#![tactic(auto)]
+
 ghost use Rattle.std.specs.Prelude.{◌≡◌};
 ghost use Rattle.rules.specs.Promises.{ReadPromise, CheckPromise, net_refusal, tabled};
 ghost use Rattle.rules.specs.Tables.{tables_of, counts_of};

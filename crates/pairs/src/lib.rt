@@ -1,4 +1,6 @@
 // What is worked out from the numbers of one or two candidates, with no storage in the way.
+#![tactic(auto)]
+
 ghost use Rattle.std.specs.Prelude.{◌≡◌, cond, ◌+◌, ◌*◌, ◌≤◌, ◌<◌};
 ghost use Rattle.std.specs.Int.Signed.{mag, lt_z};
 ghost use Rattle.rules.specs.Quantities.{◌⊖◌, most_ohms, most_own};
@@ -35,7 +37,7 @@ pub fn time_before_repeater(
 }
 
 // The load and the time of a candidate.
-#[derive(Drop)]
+#[derive(Clone, Copy)]
 pub struct Pair {
     pub load: Femtofarad,
     pub time: Femtosecond,
@@ -105,7 +107,7 @@ pub fn is_covered(
 }
 
 // A place of a list, and what the candidate there is worth.
-#[derive(Drop)]
+#[derive(Clone, Copy)]
 pub struct Choice {
     pub at: usize,
     pub value: Femtosecond,

@@ -1,4 +1,6 @@
 // Of a list of candidates at the driver the first greatest behind the driver, and its placement put down.
+#![tactic(auto)]
+
 ghost use Rattle.std.specs.Prelude.{◌≡◌, ◌+◌, ◌*◌, ◌≤◌, length};
 ghost use Rattle.rules.specs.Lists.{written};
 ghost use Rattle.rules.specs.Quantities.{placement_room};
@@ -9,7 +11,7 @@ use rooms::PLACEMENT_ROOM;
 use rules::{Femtofarad, Femtosecond};
 
 // The slack of the placement chosen, and the load on the driver.
-#[derive(Drop)]
+#[derive(Clone, Copy)]
 pub struct Timing {
     pub slack: Femtosecond,
     pub load: Femtofarad,

@@ -1,4 +1,6 @@
 // Planning a net: what is refused, and the work areas lent on at exactly their room.
+#![tactic(auto)]
+
 ghost use Rattle.std.specs.Prelude.{◌≤◌, length};
 ghost use Rattle.rules.specs.Quantities.{placement_room};
 ghost use Rattle.rules.specs.Promises.{CheckPromise, PlanPromise, ListPromise, LoadsPromise, tabled};

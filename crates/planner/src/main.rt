@@ -1,5 +1,7 @@
 // The planning program: one net from standard input; its slack, the load on its driver and its repeaters to standard output, or why it
 // is refused.
+#![tactic(auto)]
+
 use libc::STDIN_FILENO;
 use rooms::{
     PLACEMENT_ROOM, ROWS_AREA, ROWS_ROOM, TEXT_ROOM, TYPES_AREA, WORDS_AREA, WORK_ROOM, wide,

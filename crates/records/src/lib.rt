@@ -1,4 +1,6 @@
 // Planning over a lent run of records: `plan_records` keeps the promise that `plan_net` keeps on columns.
+#![tactic(auto)]
+
 ghost use Rattle.std.specs.Prelude.{◌≡◌, ◌≤◌, length};
 ghost use Rattle.rules.specs.Tables.{words_a_row, tables_of, counts_of};
 ghost use Rattle.rules.specs.Promises.{PlanPromise, tabled};

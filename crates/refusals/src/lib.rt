@@ -1,4 +1,6 @@
 // A refusal as the paper numbers it: what a person or another program is told.
+#![tactic(auto)]
+
 ghost use Rattle.std.specs.Prelude.{◌≡◌};
 ghost use Rattle.rules.specs.Refusals.{number_of, place_of};
 

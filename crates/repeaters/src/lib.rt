@@ -1,4 +1,6 @@
 // A type of repeater by value, and the one reader of it from the tables.
+#![tactic(auto)]
+
 ghost use Rattle.std.specs.Prelude.{◌≡◌, ◌+◌, ◌*◌, ◌≤◌, ◌<◌, length};
 ghost use Rattle.rules.specs.Quantities.{types_room};
 ghost use Rattle.rules.specs.Tables.{words_a_type};
@@ -9,7 +11,7 @@ use rooms::words::{TYPE_OWN, TYPE_RESISTANCE};
 use rules::{Femtofarad, Femtosecond, Ohm};
 
 // A type of repeater, its three quantities apart.
-#[derive(Drop)]
+#[derive(Clone, Copy)]
 pub struct Buffer {
     pub input: Femtofarad,
     pub resistance: Ohm,

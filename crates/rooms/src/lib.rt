@@ -1,4 +1,6 @@
 // The rooms of lent areas, the words of what stands in them, and whether an area is shorter than its room, or a text longer.
+#![tactic(auto)]
+
 ghost use Rattle.std.specs.Prelude.{◌≡◌, ltb};
 ghost use Rattle.rules.specs.Quantities.{placement_room, list_room, work_room};
 ghost use Rattle.rooms.specs.Rooms.{short_tables_by, unread, short_by, short_list_by};

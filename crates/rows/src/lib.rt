@@ -1,4 +1,6 @@
 // One row of a table by value, and where the rows below each row stand, so that a walk over the tree reads each row once.
+#![tactic(auto)]
+
 ghost use Rattle.std.specs.Prelude.{◌≡◌, ◌+◌, ◌*◌, ◌≤◌, ◌<◌, length, get_or};
 ghost use Rattle.rules.specs.Quantities.{rows_room};
 ghost use Rattle.rules.specs.Tables.{words_a_row};

@@ -1,26 +1,27 @@
 // The declared types of the paper: quantities that stay apart, rows, refusals, and an answer for each public entry. What they mean is in specs/.
+#![tactic(auto)]
 
 // A resistance.
-#[derive(Drop)]
+#[derive(Clone, Copy)]
 pub struct Ohm(pub u32);
 
 // A load or a capacitance.
-#[derive(Drop)]
+#[derive(Clone, Copy)]
 pub struct Femtofarad(pub u32);
 
 // A time. It is signed: a negative slack is a result like any other.
-#[derive(Drop)]
+#[derive(Clone, Copy)]
 pub struct Femtosecond(pub i64);
 
 // What only a sink has.
-#[derive(Drop)]
+#[derive(Clone, Copy)]
 pub struct Pin {
     pub load: Femtofarad,
     pub due: Femtosecond,
 }
 
 // A candidate as it stands in a lent run of records: its load, its time, and the words of its placement.
-#[derive(Drop)]
+#[derive(Clone, Copy)]
 pub struct Cand {
     pub load: Femtofarad,
     pub time: Femtosecond,
@@ -28,7 +29,7 @@ pub struct Cand {
 }
 
 // A row is a driver, a plain point or a sink.
-#[derive(Drop)]
+#[derive(Clone, Copy)]
 pub enum Kind {
     Driver,
     Point,
@@ -36,7 +37,7 @@ pub enum Kind {
 }
 
 // A row of a net. The resistance is the wire's, of the driver its own.
-#[derive(Drop)]
+#[derive(Clone, Copy)]
 pub struct Row {
     pub parent: u32,
     pub resistance: Ohm,
@@ -46,7 +47,7 @@ pub struct Row {
 }
 
 // Why something is refused, with the line where there is one.
-#[derive(Drop)]
+#[derive(Clone, Copy)]
 pub enum Refusal {
     Form(u32),
     Range(u32),
@@ -59,21 +60,21 @@ pub enum Refusal {
 }
 
 // What reading a text gives: how many types and rows, the driver included.
-#[derive(Drop)]
+#[derive(Clone, Copy)]
 pub enum Reading {
     Read { types: u32, rows: u32 },
     Refused(Refusal),
 }
 
 // What checking a net gives.
-#[derive(Drop)]
+#[derive(Clone, Copy)]
 pub enum Checking {
     Accepted,
     Refused(Refusal),
 }
 
 // What evaluating a placement gives: its slack, and the load on the driver.
-#[derive(Drop)]
+#[derive(Clone, Copy)]
 pub enum Slacking {
     Slack {
         slack: Femtosecond,
@@ -83,7 +84,7 @@ pub enum Slacking {
 }
 
 // What planning gives: the slack of the placement returned, and the load on the driver.
-#[derive(Drop)]
+#[derive(Clone, Copy)]
 pub enum Planning {
     Planned {
         slack: Femtosecond,
@@ -93,7 +94,7 @@ pub enum Planning {
 }
 
 // What listing gives: how many pairs the list has.
-#[derive(Drop)]
+#[derive(Clone, Copy)]
 pub enum Listing {
     Listed { length: u32 },
     Refused(Refusal),

@@ -1,4 +1,6 @@
 // The planner's recursion over the table, in the run: the list of what hangs from a row on, and the list at a row.
+#![tactic(auto)]
+
 ghost use Rattle.std.specs.Prelude.{◌≡◌, ◌<◌};
 ghost use Rattle.laws.specs.Tabled.{rows_from};
 ghost use Rattle.rows.specs.Links.{Standing, Earlier, Links};

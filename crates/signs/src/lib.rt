@@ -1,4 +1,6 @@
 // A number without its sign, for the programs that write it.
+#![tactic(auto)]
+
 ghost use Rattle.std.specs.Prelude.{◌≡◌, nat_abs};
 
 // How far from zero, for every number: where it is negative, one more than its distance from -1.

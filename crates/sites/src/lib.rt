@@ -1,4 +1,6 @@
 // The repeaters of a site: of each type the best of the list behind it, put into its place by load, dropping what it beats.
+#![tactic(auto)]
+
 ghost use Rattle.std.specs.Prelude.{◌≡◌, ◌+◌, ◌≤◌, ◌<◌, length, set};
 ghost use Rattle.rules.specs.Quantities.{sites_room, work_room};
 ghost use Rattle.laws.specs.Lists.{EveryTwo};

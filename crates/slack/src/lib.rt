@@ -1,4 +1,6 @@
 // The slack of a given placement: what is refused first, then loads and times from the sinks up, by recursion over the tree.
+#![tactic(auto)]
+
 ghost use Rattle.std.specs.Prelude.{◌≡◌};
 ghost use Rattle.rules.specs.Promises.{SlackPromise, tabled};
 ghost use Rattle.rules.specs.Tables.{tables_of, counts_of};

@@ -1,4 +1,6 @@
 // What is done with a row's own list, by value: the job, what each of its passes begins with, and what a pass has made of it.
+#![tactic(auto)]
+
 use rooms::TYPES_ROOM;
 use rules::{Cand, Femtofarad, Ohm};
 
@@ -6,7 +8,7 @@ pub mod begins;
 pub mod ends;
 
 // The row's list stands `later` places past `low`, where the list of the later rows beside it waits.
-#[derive(Drop)]
+#[derive(Clone, Copy)]
 pub struct Job {
     pub step: usize,
     pub steps: usize,

@@ -11,6 +11,8 @@
 //   same                                         or `differ`
 //
 // A text that fills the input's room ends the run with `bad input`.
+#![tactic(auto)]
+
 mod listing;
 mod planning;
 mod saying;

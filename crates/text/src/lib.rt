@@ -1,6 +1,8 @@
 // The bytes of a text: where a stretch ends, the field at a place of a line as its own stretch of the text, and the number that a
 // field states. Numbers of any length are read: past every range of the paper they stop growing, so they never overflow and
 // are still out of range.
+#![tactic(auto)]
+
 ghost use Rattle.std.specs.Prelude.{◌≡◌, ◌+◌, ◌<◌, ◌≤◌, length, drop};
 ghost use Rattle.rules.specs.Text.{is_digit, more_digits, number, signed};
 ghost use Rattle.text.specs.Stretches.{tab, lead, stretch};
@@ -19,14 +21,14 @@ const MINUS: u8 = b'-';
 const CAP: u64 = 10_000_000_000_000;
 
 // What a field reads as, with where the next field would start.
-#[derive(Drop)]
+#[derive(Clone, Copy)]
 pub enum Field {
     Number(u64, usize),
     Bad,
 }
 
 // The same of a required time, which may have a minus.
-#[derive(Drop)]
+#[derive(Clone, Copy)]
 pub enum SignedField {
     Number(i64, usize),
     Bad,

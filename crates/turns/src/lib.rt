@@ -1,4 +1,6 @@
 // One turn of a pass by value: what is read at two places decides what is put at a third, and where the pass goes on.
+#![tactic(auto)]
+
 ghost use Rattle.std.specs.Prelude.{◌≡◌};
 ghost use Rattle.values.specs.Records.{cand_of};
 ghost use Rattle.turns.specs.Turns.{pass_of, Here, Can, Turned};
@@ -9,7 +11,7 @@ pub mod moving;
 pub mod working;
 
 // What a pass does at each turn.
-#[derive(Drop)]
+#[derive(Clone, Copy)]
 pub enum Step {
     // The held one is put at each place.
     Put,
@@ -29,7 +31,7 @@ pub enum Step {
 }
 
 // A pass: what is left of it, where it reads and writes, and what it holds.
-#[derive(Drop)]
+#[derive(Clone, Copy)]
 pub struct Pass {
     pub step: Step,
     pub left: usize,
@@ -41,7 +43,7 @@ pub struct Pass {
 }
 
 // What is put, and how the pass goes on.
-#[derive(Drop)]
+#[derive(Clone, Copy)]
 pub struct Turn {
     pub put: Cand,
     pub next: Pass,

@@ -1,4 +1,6 @@
 // The arithmetic of ohms, femtofarads and femtoseconds. They stay apart: only `delay` makes a time from the other two.
+#![tactic(auto)]
+
 ghost use Rattle.std.specs.Prelude.{◌≡◌, ◌+◌, ◌*◌, ◌≤◌, ◌<◌, max, pos, ◌-ℤ◌};
 ghost use Rattle.std.specs.Int.Signed.{mag, lt_z};
 ghost use Rattle.rules.specs.Quantities.{most_ohms};

@@ -1,5 +1,7 @@
 // What hangs somewhere as a load and a time, and the steps from the sinks up, by value: behind a wire, beside each other, after a
 // repeater, what a row starts from, and the slack at the driver.
+#![tactic(auto)]
+
 ghost use Rattle.std.specs.Prelude.{◌≡◌, ◌+◌, ◌*◌, ◌≤◌, pos, ◌-ℤ◌};
 ghost use Rattle.std.specs.Int.Signed.{mag};
 ghost use Rattle.rules.specs.Quantities.{◌⊖◌, most_ohms};
@@ -14,7 +16,7 @@ use repeaters::Buffer;
 use rules::{Femtofarad, Femtosecond, Kind, Ohm, Refusal, Slacking};
 
 // What hangs somewhere: nothing, or the load it shows and its time.
-#[derive(Drop)]
+#[derive(Clone, Copy)]
 pub enum Hung {
     Nothing,
     Seen(Femtofarad, Femtosecond),

@@ -1,4 +1,6 @@
 // What is worked out from one or two records by value.
+#![tactic(auto)]
+
 ghost use Rattle.std.specs.Prelude.{◌≡◌, ◌<◌};
 ghost use Rattle.rules.specs.Quantities.{sites_room};
 ghost use Rattle.marks.specs.Marks.{marks_end};

@@ -19,6 +19,8 @@
 // A length is cut to the program's own area, which is longer than the room. A malformed request ends the run with `bad case`.
 // Before a call the areas that it may write are stamped. `kept` says that each word holds its stamp where the paper leaves it as
 // it was, `changed` that one does not; `cleared` that the room of the work area is all zero, `left` that it is not.
+#![tactic(auto)]
+
 mod asking;
 mod listing;
 mod requests;

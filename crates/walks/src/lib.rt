@@ -1,5 +1,7 @@
 // The recursion over the table: the list at a row, and the list of what hangs under a row. Of the rows under the same parent the list of
 // the first, as the links lead, is made first, by a loop; only the rows after it recurse.
+#![tactic(auto)]
+
 ghost use Rattle.std.specs.Prelude.{◌+◌, ◌-◌, ◌<◌, get_or};
 ghost use Rattle.laws.specs.Room.{HasRoom};
 ghost use Rattle.laws.specs.Walk.{under, seen_at};

@@ -1,5 +1,7 @@
 // A list through a wire, in place. A wire can turn a kept pair into a beaten one, so a candidate is kept only if it is later than the
 // last one kept: behind a wire loads rise strictly.
+#![tactic(auto)]
+
 ghost use Rattle.std.specs.Prelude.{map, ◌+◌, ◌≤◌};
 ghost use Rattle.rules.specs.Quantities.{most_ohms};
 ghost use Rattle.rules.specs.Lists.{All};

@@ -1,5 +1,7 @@
 // The static library: each entry under a name of its own for C and Rust, on numbers and slices only. include/zombrict.h says what each
 // call is lent and answers.
+#![tactic(auto)]
+
 ghost use Rattle.rules.specs.Tables.{tables_of, counts_of, table_entries};
 ghost use Rattle.rules.specs.Areas.{columns_of, lent_of, columns, plan_areas, list_areas};
 ghost use Rattle.rules.specs.Promises.{tabled};
