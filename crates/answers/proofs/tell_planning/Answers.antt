@@ -1,0 +1,15 @@
+-- `answers::tell_planning` meets its contract: an answer told as it crosses. Assumes nothing.
+use mathlib.Core.Path.{refl, ap, ◌∙◌}
+use native.Mathlib.Omega.{arith}
+use Rattle.rules.specs.Answers.{plan_figures, no_timing}
+use Rattle.units.specs.Bits.{bits_back}
+use Rattle.answers.specs.Crossing.{words_are, crossed-done, crossed-refused}
+use Rattle.answers.proofs.tell_planning.Goals as goal
+
+pub returns-in-Planned : goal.returns-in-Planned
+unfolding plan_figures no_timing
+returns-in-Planned c = crossed-done _ _ _ (ap plan_figures c.in-Planned.is) refl c.tell.ensures.0 (words_are _ refl (bits_back _ (omega (arith, c.struct_told-1.given))) (bits_back _ c.word.type-inv ∙ c.word.ensures) c.tell.ensures.1)
+
+pub returns-in-Refused : goal.returns-in-Refused
+unfolding plan_figures no_timing
+returns-in-Refused c = crossed-refused no_timing _ (ap plan_figures c.in-Refused.is) refl c.tell_refusal.ensures

@@ -1,0 +1,11 @@
+-- `asked::listing::list` is safe: each area is lent at a length cut to its own. Assumes nothing.
+use mathlib.Core.Path.{sym}
+use lib.Seq.{length-take-le}
+use borrow.Author.Rules.{rules}
+use Rattle.asked.proofs.listing.list.Goals as goal
+
+pub slice_bounds-on_work-end-2 : goal.slice_bounds-on_work-end-2
+slice_bounds-on_work-end-2 c = sym (length-take-le _ _ (search rules))
+
+pub slice_bounds-on_work-end-4 : goal.slice_bounds-on_work-end-4
+slice_bounds-on_work-end-4 c = sym (length-take-le _ _ (search rules))

@@ -1,0 +1,15 @@
+-- `checks::ranges::wire_out` meets its contract: the first field out of range decides. Assumes nothing.
+use borrow.Author.Tests.{lt-ltb, le-ltb}
+use Rattle.checks.proofs.ranges.wire_out.Goals as goal
+
+pub returns-then-parent-gt-MOST_PARENT : goal.returns-then-parent-gt-MOST_PARENT
+returns-then-parent-gt-MOST_PARENT c = simp (lt-ltb _ _ c.if-parent-gt-MOST_PARENT.taken)
+
+pub returns-then-resistance-gt-MOST_OHMS : goal.returns-then-resistance-gt-MOST_OHMS
+returns-then-resistance-gt-MOST_OHMS c = simp (le-ltb _ _ c.if-parent-gt-MOST_PARENT.left, lt-ltb _ _ c.if-resistance-gt-MOST_OHMS.taken)
+
+pub returns-then-capacitance-gt-MOST_FEMTOFARADS : goal.returns-then-capacitance-gt-MOST_FEMTOFARADS
+returns-then-capacitance-gt-MOST_FEMTOFARADS c = simp (le-ltb _ _ c.if-parent-gt-MOST_PARENT.left, le-ltb _ _ c.if-resistance-gt-MOST_OHMS.left, lt-ltb _ _ c.if-capacitance-gt-MOST_FEMTOFARADS.taken)
+
+pub returns : goal.returns
+returns c = simp (le-ltb _ _ c.if-parent-gt-MOST_PARENT.left, le-ltb _ _ c.if-resistance-gt-MOST_OHMS.left, le-ltb _ _ c.if-capacitance-gt-MOST_FEMTOFARADS.left)

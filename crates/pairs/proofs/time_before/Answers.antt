@@ -1,0 +1,8 @@
+-- `pairs::time_before` meets its contract. Assumes nothing.
+use mathlib.Core.Path.{◌∙◌}
+use Rattle.units.specs.Times.{less-⊖}
+use Rattle.pairs.proofs.time_before.Goals as goal
+
+pub returns : goal.returns
+returns c =
+    c.less.ensures.value ∙ less-⊖ c.args.time.0 c.delay-d.result.0 _ c.delay-d.ensures.value

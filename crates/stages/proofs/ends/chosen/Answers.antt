@@ -1,0 +1,5 @@
+-- `stages::ends::chosen` meets its contract. Assumes nothing.
+use Rattle.stages.proofs.ends.chosen.Goals as goal
+
+pub returns : goal.returns
+returns c = (c.type_inv.result, rw (← c.type_at-b.ensures) c.type_inv.ensures, c.on_to.ensures)

@@ -1,0 +1,9 @@
+-- `zombrict::texts::slack_read` meets its contract: a refusal of the text is handed on, else the entry is called with the counts that were read. Assumes nothing.
+use Rattle.zombrict.specs.TextLaws.{slack-refused, slack-read}
+use Rattle.zombrict.proofs.texts.slack_read.Goals as goal
+
+pub returns-in-Refused : goal.returns-in-Refused
+returns-in-Refused c = slack-refused _ _ c.in-Refused.is
+
+pub returns-in-Read : goal.returns-in-Read
+returns-in-Read c = slack-read _ _ _ c.in-Read.is c.count.ensures c.count-in-Read.ensures c.slack_of.ensures
