@@ -171,7 +171,7 @@ small_is f n next e h = rw e at h
 
 -- a signed local holds bits: what is read back from them is the number, since it fits
 pub bits_back : (z : ℤ) → mag z < 2 ^ 63 → to_z w64 (of_z w64 z) ≡ z
-bits_back z h = to_z-of_z (record { sfits = h })
+bits_back z h = to_z-of_z {w = w64} (record { sfits = h })
 
 pub kept-is : (f : Field) (n next : ℕ) → f ≡ Number n next → n ≤ cap → Time (to_z w64 n) next ≡ kept f
 kept-is f n next e h = rw (e, to_z_pos w64 {n = n} (omega arith))

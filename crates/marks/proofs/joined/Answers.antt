@@ -4,4 +4,4 @@ use Rattle.marks.specs.Marks.{joined-marks}
 use Rattle.marks.proofs.joined.Goals as goal
 
 pub returns : goal.returns
-returns c = joined-marks c.args.t1 c.args.t2 (omega arith) (omega arith)
+returns c = joined-marks c.args.a c.args.b (omega arith) (omega arith)

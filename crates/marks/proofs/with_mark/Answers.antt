@@ -6,4 +6,4 @@ use Rattle.marks.proofs.with_mark.Goals as goal
 pub returns : goal.returns
 returns c =
     let a = c.args in
-    stored-marks a.t1 a.j a.m c.with.result (omega arith) (omega arith) c.with.ensures
+    stored-marks a.words a.j a.m c.with.result (omega arith) (omega arith) c.with.ensures

@@ -2,12 +2,17 @@
 use mathlib.Core.Path.{◌≡◌, ap}
 use Prim.Native.Nat.{ℕ, ◌-◌}
 use native.Mathlib.Omega.{arith}
-use lib.ListN.{take, drop}
-use Rattle.text.specs.Stretches.{tab, lead, stretch-past}
+use lib.ListN.{take, drop, length-drop}
+use Rattle.text.specs.Stretches.{tab, lead, lead-le, stretch-past}
 use Rattle.text.proofs.field_at.Goals as goal
 
 pub returns-then-line-at : goal.returns-then-line-at
 returns-then-line-at c = stretch-past tab c.args.line.now c.args.at (omega arith)
+
+pub slice_bounds-result-end-2 : goal.slice_bounds-result-end-2
+slice_bounds-result-end-2 c =
+    let a = c.args in
+    omega (arith, lead-le tab (drop a.at a.line.now), length-drop a.at a.line.now)
 
 pub returns : goal.returns
 returns c =

@@ -15,10 +15,8 @@ overflow_cast-result c = record { sfits = omega (arith, small_is c.args.f c.in-N
 
 pub overflow_sub-result : goal.overflow_sub-result
 overflow_sub-result c =
-    let g = c.f-1.given in
-    minus-fits g.0.0 (small_is c.args.f g.0.0 g.0.1.0 g.1 c.requires)
+    minus-fits c.in-Number.n (small_is c.args.f c.in-Number.n c.in-Number.next c.in-Number.is c.requires)
 
 pub returns-else-n-eq0 : goal.returns-else-n-eq0
 returns-else-n-eq0 c =
-    let g = c.f-1.given in
-    negated-is c.args.f g.0.0 g.0.1.0 g.1 (small_is c.args.f g.0.0 g.0.1.0 g.1 c.requires) c.if-n-eq0.false
+    negated-is c.args.f c.in-Number.n c.in-Number.next c.in-Number.is (small_is c.args.f c.in-Number.n c.in-Number.next c.in-Number.is c.requires) c.if-n-eq0.false

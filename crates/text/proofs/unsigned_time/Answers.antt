@@ -8,5 +8,4 @@ overflow_cast-result c = record { sfits = omega (arith, small_is c.args.f c.in-N
 
 pub returns-in-Number : goal.returns-in-Number
 returns-in-Number c =
-    let g = c.f-1.given in
-    kept-is c.args.f g.0.0 g.0.1.0 g.1 (small_is c.args.f g.0.0 g.0.1.0 g.1 c.requires)
+    kept-is c.args.f c.in-Number.n c.in-Number.next c.in-Number.is (small_is c.args.f c.in-Number.n c.in-Number.next c.in-Number.is c.requires)

@@ -14,4 +14,4 @@ pub returns : goal.returns
 returns c =
     let a = c.args in
     let p = c.requires in
-    rw (delay-back a.r.0 a.c.0 p.0 p.1) (refl, product-most a.r.0 a.c.0 p.0 p.1)
+    rw (delay-back a.r.0 a.c.0 p.0 p.1) (record { value = refl; size = product-most a.r.0 a.c.0 p.0 p.1 })

@@ -15,4 +15,4 @@ pub returns : goal.returns
 returns c =
     let t = c.args.t.0 in
     let d = c.args.d.0 in
-    rw (less-back t d (omega arith) (omega arith)) (refl, mag_less t d)
+    rw (less-back t d (omega arith) (omega arith)) (record { value = refl; size = mag_less t d })

@@ -14,12 +14,10 @@ wire_row-k-requires c =
 
 pub join_lists-requires : goal.join_lists-requires
 join_lists-requires c =
-    let p = c.requires.1 in
     let a = c.args in
-    record { room = room-kept _ _ _ p.0 c.loads-1.given c.times-1.given c.words-1.given; pair = hang-pair (run a.loads.now a.times.now a.words.now) a.at a.m a.n (wire_of (row_at a.rows.now a.due.now a.row)) p.1.1 (room-run work_room p.0 (omega arith)) (run c.wire_row-k.new.loads c.wire_row-k.new.times c.wire_row-k.new.words) c.wire_row-k.result c.wire_row-k.ensures }
+    record { room = room-kept _ _ _ c.requires.room c.loads-1.given c.times-1.given c.words-1.given; pair = hang-pair (run a.loads.now a.times.now a.words.now) a.at a.m a.n (wire_of (row_at a.rows.now a.due.now a.row)) c.requires.hang (room-run work_room c.requires.room (omega arith)) (run c.wire_row-k.new.loads c.wire_row-k.new.times c.wire_row-k.new.words) c.wire_row-k.result c.wire_row-k.ensures }
 
 pub returns : goal.returns
 returns c =
-    let p = c.requires.1 in
     let a = c.args in
-    hang-gives (run a.loads.now a.times.now a.words.now) a.at a.m a.n (wire_of (row_at a.rows.now a.due.now a.row)) p.1.1 (room-run work_room p.0 (omega arith)) (run c.wire_row-k.new.loads c.wire_row-k.new.times c.wire_row-k.new.words) c.wire_row-k.result c.wire_row-k.ensures (run c.join_lists.new.loads c.join_lists.new.times c.join_lists.new.words) c.join_lists.result c.join_lists.ensures
+    hang-gives (run a.loads.now a.times.now a.words.now) a.at a.m a.n (wire_of (row_at a.rows.now a.due.now a.row)) c.requires.hang (room-run work_room c.requires.room (omega arith)) (run c.wire_row-k.new.loads c.wire_row-k.new.times c.wire_row-k.new.words) c.wire_row-k.result c.wire_row-k.ensures (run c.join_lists.new.loads c.join_lists.new.times c.join_lists.new.words) c.join_lists.result c.join_lists.ensures

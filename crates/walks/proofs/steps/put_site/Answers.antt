@@ -15,21 +15,18 @@ use Rattle.walks.proofs.steps.put_site.Goals as goal
 pub put_types-requires : goal.put_types-requires
 put_types-requires c =
     let a = c.args in
-    let p = c.requires.1 in
-    let s = p.1.1.1 in
+    let s = c.requires.sited in
     let e : (row_at a.rows.now a.due.now a.row).site ≡ true = rw (← c.row_at-x.ensures) c.if-x.true in
-    record { types_in = sited-types p.0; room = p.1.1.0; stand = sited-stand a.types.now a.count (run a.loads.now a.times.now a.words.now) a.at a.n (get_or a.links.now (sites_at + a.row) 0) (row_at a.rows.now a.due.now a.row).site s; every_two = s.rising; k_lt_sites_room = (rw c.sites_before-k.ensures (s.number e), s.place) }
+    record { types_in = sited-types c.requires.typed; room = c.requires.room; stand = sited-stand a.types.now a.count (run a.loads.now a.times.now a.words.now) a.at a.n (get_or a.links.now (sites_at + a.row) 0) (row_at a.rows.now a.due.now a.row).site s; every_two = s.rising; k_lt_sites_room = (rw c.sites_before-k.ensures (s.number e), s.place) }
 
 pub returns-then-x : goal.returns-then-x
 returns-then-x c =
     let a = c.args in
-    let p = c.requires.1 in
     let e : (row_at a.rows.now a.due.now a.row).site ≡ true = rw (← c.row_at-x.ensures) c.if-x.true in
-    site-put a.types.now a.count (run a.loads.now a.times.now a.words.now) a.at a.n (get_or a.links.now (sites_at + a.row) 0) (row_at a.rows.now a.due.now a.row).site p.1.1.1 (run c.put_types.new.loads c.put_types.new.times c.put_types.new.words) c.put_types.result e (rw c.sites_before-k.ensures at c.put_types.ensures)
+    site-put a.types.now a.count (run a.loads.now a.times.now a.words.now) a.at a.n (get_or a.links.now (sites_at + a.row) 0) (row_at a.rows.now a.due.now a.row).site c.requires.sited (run c.put_types.new.loads c.put_types.new.times c.put_types.new.words) c.put_types.result e (rw c.sites_before-k.ensures at c.put_types.ensures)
 
 pub returns : goal.returns
 returns c =
     let a = c.args in
-    let p = c.requires.1 in
     let e : (row_at a.rows.now a.due.now a.row).site ≡ false = rw (← c.row_at-x.ensures) c.if-x.false in
-    site-none a.types.now a.count (run a.loads.now a.times.now a.words.now) a.at a.n (get_or a.links.now (sites_at + a.row) 0) (row_at a.rows.now a.due.now a.row).site p.1.1.1 (room-run work_room p.1.1.0 (omega arith)) e
+    site-none a.types.now a.count (run a.loads.now a.times.now a.words.now) a.at a.n (get_or a.links.now (sites_at + a.row) 0) (row_at a.rows.now a.due.now a.row).site c.requires.sited (room-run work_room c.requires.room (omega arith)) e
