@@ -7,7 +7,7 @@ use Rattle.answers.proofs.tell_listing.Goals as goal
 
 pub returns-in-Listed : goal.returns-in-Listed
 unfolding list_figures
-returns-in-Listed c = crossed-done _ _ _ (ap list_figures c.in-Listed.is) refl c.tell.ensures.0 (words_are _ refl (bits_back _ c.word.type-inv ∙ c.word.ensures) refl c.tell.ensures.1)
+returns-in-Listed c = crossed-done _ _ _ (ap list_figures c.in-Listed.is) refl c.tell.ensures.0 (words_are _ refl (bits_back _ c.word.type_inv ∙ c.word.ensures) refl c.tell.ensures.1)
 
 pub returns-in-Refused : goal.returns-in-Refused
 unfolding list_figures

@@ -7,7 +7,7 @@ use Rattle.answers.proofs.tell_reading.Goals as goal
 
 pub returns-in-Read : goal.returns-in-Read
 unfolding read_figures no_counts
-returns-in-Read c = crossed-done _ _ _ (ap read_figures c.in-Read.is) refl c.tell.ensures.0 (words_are _ refl (bits_back _ c.word.type-inv ∙ c.word.ensures) (bits_back _ c.word-in-Read.type-inv ∙ c.word-in-Read.ensures) c.tell.ensures.1)
+returns-in-Read c = crossed-done _ _ _ (ap read_figures c.in-Read.is) refl c.tell.ensures.0 (words_are _ refl (bits_back _ c.word.type_inv ∙ c.word.ensures) (bits_back _ c.word-in-Read.type_inv ∙ c.word-in-Read.ensures) c.tell.ensures.1)
 
 pub returns-in-Refused : goal.returns-in-Refused
 unfolding read_figures no_counts

@@ -7,4 +7,4 @@ use Rattle.answers.specs.Crossing.{words_are}
 use Rattle.answers.proofs.tell_refusal.Goals as goal
 
 pub returns : goal.returns
-returns c = (c.number_of.ensures, words_are _ (bits_back _ c.word.type-inv ∙ c.word.ensures ∙ ap (λ (k : ℕ). pos k) c.place_of.ensures) refl refl c.put.ensures)
+returns c = (c.number_of.ensures, words_are _ (bits_back _ c.word.type_inv ∙ c.word.ensures ∙ ap (λ (k : ℕ). pos k) c.place_of.ensures) refl refl c.put.ensures)

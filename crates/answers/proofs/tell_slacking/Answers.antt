@@ -8,7 +8,7 @@ use Rattle.answers.proofs.tell_slacking.Goals as goal
 
 pub returns-in-Slack : goal.returns-in-Slack
 unfolding slack_figures no_timing
-returns-in-Slack c = crossed-done _ _ _ (ap slack_figures c.in-Slack.is) refl c.tell.ensures.0 (words_are _ refl (bits_back _ (omega (arith, c.struct_told-1.given))) (bits_back _ c.word.type-inv ∙ c.word.ensures) c.tell.ensures.1)
+returns-in-Slack c = crossed-done _ _ _ (ap slack_figures c.in-Slack.is) refl c.tell.ensures.0 (words_are _ refl (bits_back _ (omega (arith, c.struct_told-1.given))) (bits_back _ c.word.type_inv ∙ c.word.ensures) c.tell.ensures.1)
 
 pub returns-in-Refused : goal.returns-in-Refused
 unfolding slack_figures no_timing
