@@ -1,41 +1,43 @@
 // The lines that the program writes: a word, then numbers, parted by one space and ended by a line feed.
-use libc::STDOUT_FILENO;
 use rooms::words::ROW_SITE;
 use rooms::{PLACEMENT_ROOM, ROW_WORDS, ROWS_AREA, ROWS_ROOM, SITES_ROOM, wide};
 use rules::Refusal;
 
+// Standard output, as the system numbers it.
+const STDOUT: i32 = 1;
+
 fn print_number(n: u64) {
-    io::write_all(STDOUT_FILENO, b" ");
-    io::print_decimal(STDOUT_FILENO, n);
+    io::write_all(STDOUT, b" ");
+    io::print_decimal(STDOUT, n);
 }
 
 fn print_signed(z: i64) {
-    io::write_all(STDOUT_FILENO, b" ");
+    io::write_all(STDOUT, b" ");
     if z < 0 {
-        io::write_all(STDOUT_FILENO, b"-");
+        io::write_all(STDOUT, b"-");
     }
-    io::print_decimal(STDOUT_FILENO, signs::magnitude(z));
+    io::print_decimal(STDOUT, signs::magnitude(z));
 }
 
 fn end_line() {
-    io::write_all(STDOUT_FILENO, b"\n");
+    io::write_all(STDOUT, b"\n");
 }
 
 pub fn print_refusal(r: Refusal) {
-    io::write_all(STDOUT_FILENO, b"refused");
+    io::write_all(STDOUT, b"refused");
     print_number(wide::word(refusals::number_of(r)));
     print_number(wide::word(refusals::place_of(r)));
     end_line();
 }
 
 pub fn print_slack(slack: i64) {
-    io::write_all(STDOUT_FILENO, b"slack");
+    io::write_all(STDOUT, b"slack");
     print_signed(slack);
     end_line();
 }
 
 pub fn print_load(load: u32) {
-    io::write_all(STDOUT_FILENO, b"load");
+    io::write_all(STDOUT, b"load");
     print_number(wide::word(load));
     end_line();
 }
@@ -44,7 +46,7 @@ fn print_buffer(row: u64, mark: u64) {
     if mark == 0 {
         return;
     }
-    io::write_all(STDOUT_FILENO, b"buffer");
+    io::write_all(STDOUT, b"buffer");
     print_number(row);
     print_number(mark);
     end_line();

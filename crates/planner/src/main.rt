@@ -2,13 +2,15 @@
 // is refused.
 #![tactic(auto)]
 
-use libc::STDIN_FILENO;
 use rooms::{
     PLACEMENT_ROOM, ROWS_AREA, ROWS_ROOM, TEXT_ROOM, TYPES_AREA, WORDS_AREA, WORK_ROOM, wide,
 };
 use rules::{Planning, Reading};
 
 mod lines;
+
+// Standard input, as the system numbers it.
+const STDIN: i32 = 0;
 
 // Of a net that was read: its plan.
 fn plan(
@@ -63,6 +65,6 @@ fn report(text: &[u8]) {
 fn main() {
     // One byte more than a text may have: a text that fills it is too long, and is not read to its end.
     let mut text = [0u8; TEXT_ROOM + 1];
-    let n = io::read_full(STDIN_FILENO, &mut text);
+    let n = io::read_full(STDIN, &mut text);
     report(&text[..n]);
 }

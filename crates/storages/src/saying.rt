@@ -1,15 +1,17 @@
 // What is written: words, numbers and refusals.
-use libc::STDOUT_FILENO;
 use rules::Refusal;
 
+// Standard output, as the system numbers it.
+const STDOUT: i32 = 1;
+
 pub fn say(words: &[u8]) {
-    io::write_all(STDOUT_FILENO, words);
+    io::write_all(STDOUT, words);
 }
 
 // A number, with a space before it.
 pub fn number(n: u64) {
     say(b" ");
-    io::print_decimal(STDOUT_FILENO, n);
+    io::print_decimal(STDOUT, n);
 }
 
 pub fn load(n: u32) {
@@ -21,13 +23,13 @@ pub fn time(t: i64) {
     if t < 0 {
         say(b"-");
     }
-    io::print_decimal(STDOUT_FILENO, signs::magnitude(t));
+    io::print_decimal(STDOUT, signs::magnitude(t));
 }
 
 // A word of a placement: a mark is one digit, the last that of its first site.
 pub fn marks(word: u64) {
     say(b" ");
-    io::print_hex(STDOUT_FILENO, word, 16);
+    io::print_hex(STDOUT, word, 16);
 }
 
 // The number of a refusal, and its place.

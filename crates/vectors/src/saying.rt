@@ -1,16 +1,18 @@
 // What is written: words, numbers and refusals.
 use asked::work::Left;
-use libc::STDOUT_FILENO;
 use rules::{Femtofarad, Femtosecond, Refusal};
 
+// Standard output, as the system numbers it.
+const STDOUT: i32 = 1;
+
 pub fn say(words: &[u8]) {
-    io::write_all(STDOUT_FILENO, words);
+    io::write_all(STDOUT, words);
 }
 
 // A number, with a space before it.
 pub fn number(n: u64) {
     say(b" ");
-    io::print_decimal(STDOUT_FILENO, n);
+    io::print_decimal(STDOUT, n);
 }
 
 pub fn load(n: u32) {
@@ -22,13 +24,13 @@ pub fn time(t: i64) {
     if t < 0 {
         say(b"-");
     }
-    io::print_decimal(STDOUT_FILENO, signs::magnitude(t));
+    io::print_decimal(STDOUT, signs::magnitude(t));
 }
 
 // A word of a placement: a mark is one digit, the last that of its first site.
 pub fn marks(word: u64) {
     say(b" ");
-    io::print_hex(STDOUT_FILENO, word, 16);
+    io::print_hex(STDOUT, word, 16);
 }
 
 // A sum that went round: below zero where the upper half is reached.
@@ -37,7 +39,7 @@ pub fn sum(n: u64) {
         number(n);
     } else {
         say(b" -");
-        io::print_decimal(STDOUT_FILENO, std::num::wrapping_sub_u64(0, n));
+        io::print_decimal(STDOUT, std::num::wrapping_sub_u64(0, n));
     }
 }
 
