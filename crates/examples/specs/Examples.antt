@@ -25,8 +25,10 @@ use Rattle.laws.specs.Steps.{value, best, pick, buffered, joined, merge, merge_a
 use Rattle.laws.specs.Moves.{behind, wire_step, type_step, site_step}
 use Rattle.laws.specs.Trees.{slack_is}
 use Rattle.laws.specs.Trees.{time as time_of}
-use Rattle.laws.specs.Method.{Proper, Reaches, pinned, front_of, method, planned}
-use Rattle.laws.specs.Listing.{pair_of, lone, listed, Meets, meeting, meeting-unbeaten}
+use Rattle.laws.specs.Method.{Proper, Reaches, pinned, front_of, planned}
+use Rattle.laws.proofs.Method.{method}
+use Rattle.laws.specs.Listing.{pair_of, lone, Meets, meeting}
+use Rattle.laws.proofs.Listing.{listed, meeting-unbeaten}
 use Rattle.laws.specs.Lists.{any-all, EveryTwo, leads, ends}
 
 -- ---- what an example says

@@ -20,7 +20,7 @@ use Rattle.rules.specs.Answers.{read_figures, check_figures, slack_figures, plan
 use Rattle.rules.specs.Promises.{ReadPromise, CheckPromise, SlackPromise, PlanPromise, ListPromise, LoadsPromise, tabled}
 use Rattle.rules.specs.Areas.{Storage, Columns, columns, short_placement, Lent, lent_of, short_lent, unseen_times, list_areas, loads_areas, plan_areas}
 use Rattle.laws.specs.Method.{Proper}
-use Rattle.laws.specs.Listing.{listed-length}
+use Rattle.laws.proofs.Listing.{listed-length}
 use Rattle.laws.specs.Settled.{one-tree}
 use Rattle.examples.specs.Examples.{net_a, marked, A₁, IsList, paired, examples}
 use Rattle.examples.specs.Given.{blank, tables_in, counts_in, plan-taken, list-taken, nets}
