@@ -9,7 +9,7 @@ use Rattle.rules.specs.declared.Cand.{Cand}
 use Rattle.rules.specs.Areas.{Columns, zeros}
 use Rattle.rules.specs.Quantities.{types_room, work_room}
 use Rattle.rules.specs.Placements.{marks}
-use Rattle.units.specs.Times.{own_of}
+use Rattle.units.proofs.Times.{own_of}
 use Rattle.repeaters.specs.Repeaters.{buffer_of, buffer_at}
 use Rattle.laws.specs.Joining.{with_mark}
 use Rattle.laws.specs.Ranges.{RepeaterInRange}

@@ -7,7 +7,7 @@ use Rattle.rules.specs.declared.Cand.{Cand}
 use Rattle.rules.specs.Areas.{Columns, zeros}
 use Rattle.rules.specs.Quantities.{placement_room, work_room}
 use Rattle.rules.specs.Placements.{marks}
-use Rattle.units.specs.Times.{own_of}
+use Rattle.units.proofs.Times.{own_of}
 use Rattle.laws.specs.Steps.{best, value}
 use Rattle.laws.specs.Tabled.{row_at}
 use Rattle.marks.specs.Marks.{marks-zero}
