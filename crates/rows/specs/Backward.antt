@@ -54,7 +54,7 @@ module _ {rows : List Row} {links : List ℕ} {p i : ℕ} (inside : i ≤ length
   unfolding rows_left
   chain_left zero h ch = omega arith
   chain_left {c} (suc most) h (end e z f) = cond_yes (eqb c (length rows)) _ _ (same e) ∙ sym z
-  chain_left {c} (suc most) h (next less v a b f z g ch) = cond_no (eqb c (length rows)) _ _ (other (apart c b)) ∙ ap suc (chain_left most (omega arith) ch) ∙ sym z
+  chain_left {c} (suc most) h (next less v a b f z g ch) = cond_no (eqb c (length rows)) _ _ (other (apart c b)) ∙ ap suc (chain_left {c = get_or links (next_at + c) 0} most (omega arith) ch) ∙ sym z
     where
       apart : (c : ℕ) → c < i → ¬ (c ≡ length rows)
       apart c h e = omega arith

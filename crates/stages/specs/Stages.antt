@@ -16,8 +16,8 @@ use Rattle.turns.specs.Turns.{pass_of}
 use Rattle.stages.specs.declared.Job.{Job}
 
 -- where the row's own list stands
-abbrev pub field_own : Job → ℕ
-field_own j = j.low + j.later
+abbrev pub own_at : Job → ℕ
+own_at j = j.low + j.later
 
 -- what stands past the end of an array of records
 abbrev pub unset : Cand
@@ -28,22 +28,22 @@ abbrev pub pass_at : Step → (left from with to : ℕ) → Cand → Pass
 pass_at step left from with to held = pass_of step left from with to held (record { 0 = pos 0 })
 
 abbrev pub pin_pass : Job → Pass
-pin_pass j = pass_at Put (cond j.sink 1 0) (field_own j) (field_own j) (field_own j) j.pin
+pin_pass j = pass_at Put (cond j.sink 1 0) (own_at j) (own_at j) (own_at j) j.pin
 
 abbrev pub choice_pass : List ℕ → Job → ℕ → Pass
-choice_pass types j t = pass_at (FirstChoice (buffer_at types t).own (buffer_at types t).resistance) j.own (field_own j) (field_own j) (field_own j) zeros
+choice_pass types j t = pass_at (FirstChoice (buffer_at types t).own (buffer_at types t).resistance) j.own (own_at j) (own_at j) (own_at j) zeros
 
 abbrev pub insert_pass : Job → ℕ → Pass
-insert_pass j t = pass_at Insert (j.own + 1) (field_own j) (field_own j) (field_own j) (get_or j.best t unset)
+insert_pass j t = pass_at Insert (j.own + 1) (own_at j) (own_at j) (own_at j) (get_or j.best t unset)
 
 abbrev pub wire_pass : Job → Pass
-wire_pass j = pass_at (FirstWire j.resistance j.capacitance) j.own (field_own j) (field_own j) (field_own j) zeros
+wire_pass j = pass_at (FirstWire j.resistance j.capacitance) j.own (own_at j) (own_at j) (own_at j) zeros
 
 abbrev pub branch_pass : Job → Pass
-branch_pass j = pass_at (Branch (field_own j + j.own) (field_own j)) (j.later + j.own) (field_own j) j.low (field_own j + j.own) zeros
+branch_pass j = pass_at (Branch (own_at j + j.own) (own_at j)) (j.later + j.own) (own_at j) j.low (own_at j + j.own) zeros
 
 abbrev pub move_pass : Job → Pass
-move_pass j = pass_at Move j.made (field_own j + j.own) j.low j.low zeros
+move_pass j = pass_at Move j.made (own_at j + j.own) j.low j.low zeros
 
 unfoldable pub begin_of : List ℕ → Job → Pass
 begin_of types j =
@@ -66,8 +66,8 @@ unfoldable pub Ended : List ℕ → Job → Pass → Job → Type 0
 Ended types j e r =
     cond (ltb j.step 1) (r ≡ on_to j (cond j.sink 1 j.own) 0 j.best)
     (cond (ltb j.step (j.count + 1)) (Chosen types j e (j.step - 1) r)
-    (cond (ltb j.step (j.count + j.count + 2)) (r ≡ on_to j (e.to - field_own j) 0 j.best)
-    (cond (ltb j.step (j.count + j.count + 3)) (r ≡ on_to j j.own (e.to - (field_own j + j.own)) j.best)
+    (cond (ltb j.step (j.count + j.count + 2)) (r ≡ on_to j (e.to - own_at j) 0 j.best)
+    (cond (ltb j.step (j.count + j.count + 3)) (r ≡ on_to j j.own (e.to - (own_at j + j.own)) j.best)
     (r ≡ on_to j j.made j.made j.best))))
 
 pub own-pin : {b : Bool} (n : ℕ) → b ≡ true → 1 ≡ cond b 1 n
@@ -86,5 +86,5 @@ pub record Inside (types : List ℕ) (j : Job) : Type 0 where
   pub room : j.low + j.later + j.own ≤ work_room
 
 pub record Ends (j : Job) (e : Pass) : Type 0 where
-  pub kept : j.count < j.step → j.step < j.count + j.count + 2 → field_own j ≤ e.to
-  pub past : j.count + j.count + 1 < j.step → j.step < j.count + j.count + 3 → field_own j + j.own ≤ e.to
+  pub kept : j.count < j.step → j.step < j.count + j.count + 2 → own_at j ≤ e.to
+  pub past : j.count + j.count + 1 < j.step → j.step < j.count + j.count + 3 → own_at j + j.own ≤ e.to

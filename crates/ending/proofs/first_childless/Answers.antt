@@ -9,4 +9,4 @@ pub childless_with-requires : goal.childless_with-requires
 childless_with-requires c = (c.requires, refl)
 
 pub returns : goal.returns
-returns c = record { first = c.childless_with.ensures.0; among = c.childless_with.ensures.1 }
+returns c = record { first = c.childless_with.ensures.first; among = c.childless_with.ensures.among }

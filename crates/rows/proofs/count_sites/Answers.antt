@@ -28,8 +28,7 @@ loop-i-preserved c =
     let a = c.args in
     let p = c.requires.standing in
     let h = c.loop-i-test.true in
-    let e = rows-length a.rows.now a.due.now 0 a.n in
-    (
+    let e = rows-length a.rows.now a.due.now 0 a.n in (
       omega arith,
       counting-step _ _ c.loop-i.i c.loop-i.k c.loop-i.invariant.1 (rw e p.few) (rw e h) _ _ (rw (e, c.place.ensures, c.place-in-loop-i.ensures))
           (count_next a.rows.now a.due.now a.n c.loop-i.i c.loop-i.k c.row_at-x.result _ h c.loop-i.invariant.1.count c.row_at-x.ensures c.next_site-k.ensures),

@@ -3,7 +3,7 @@ use mathlib.Core.Path.{sym, ◌∙◌}
 use Rattle.checks.proofs.ranges.sink_out.Goals as goal
 
 pub returns-then-wire_out : goal.returns-then-wire_out
-returns-then-wire_out c = simp (sym c.wire_out.ensures ∙ c.if-wire_out.taken)
+returns-then-wire_out c = simp (sym c.wire_out.ensures ∙ c.if-wire_out.true)
 
 pub returns : goal.returns
-returns c = simp (sym c.wire_out.ensures ∙ c.if-wire_out.left) c.pin_out.ensures
+returns c = simp (sym c.wire_out.ensures ∙ c.if-wire_out.false) c.pin_out.ensures

@@ -14,4 +14,4 @@ pub bounds-words-at-4 : goal.bounds-words-at-4
 bounds-words-at-4 c = simp length-set (omega arith)
 
 pub returns : goal.returns
-returns c = words-put c.args.words.now c.args.t3 c.args.i (omega arith)
+returns c = words-put c.args.words.now c.args.new c.args.i (omega arith)

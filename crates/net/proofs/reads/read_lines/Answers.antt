@@ -35,6 +35,9 @@ returns-then-end-text c =
 pub slice_bounds-take_line-count : goal.slice_bounds-take_line-count
 slice_bounds-take_line-count c = omega (arith, c.stretch_end-end.ensures)
 
+pub slice_bounds-take_line-end : goal.slice_bounds-take_line-end
+slice_bounds-take_line-end c = omega (arith, c.stretch_end-end.ensures, lead-le line_feed (drop c.loop-at.at c.args.text.now), length-drop c.loop-at.at c.args.text.now)
+
 pub take_line-requires : goal.take_line-requires
 take_line-requires c = (c.loop-at.invariant.1.1.held.few, c.loop-at.invariant.0.1)
 

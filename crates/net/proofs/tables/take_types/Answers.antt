@@ -27,8 +27,11 @@ check_type-requires c = c.loop-i.invariant.1.0.0
 
 pub returns-in-Refused : goal.returns-in-Refused
 returns-in-Refused c =
-    let ts = c.args.types.now in record { few = tt; passes = λ rows due. take-refused (tables_of ts rows due) (type_entry (tables_of ts rows due)) [] c.loop-i.i c.loop-i.n (c.loop-i.invariant.1.1 rows due) (place_at c.loop-i.n) (TypeLine c.type_at-t.result) c.check_type.result refl
-          (type-line-is ts rows due c.loop-i.i (place_at c.loop-i.n) c.type_at-t.result c.type_at-t.ensures) c.check_type.ensures 4 c.args.count c.in-Refused.r (omega arith) c.in-Refused.is }
+    let ts = c.args.types.now in record {
+      few = tt;
+      passes = λ rows due. take-refused (tables_of ts rows due) (type_entry (tables_of ts rows due)) [] c.loop-i.i c.loop-i.n (c.loop-i.invariant.1.1 rows due) (place_at c.loop-i.n) (TypeLine c.type_at-t.result) c.check_type.result refl
+          (type-line-is ts rows due c.loop-i.i (place_at c.loop-i.n) c.type_at-t.result c.type_at-t.ensures) c.check_type.ensures 4 c.args.count c.in-Refused.r (omega arith) c.in-Refused.is;
+    }
 
 pub passed_with-n-requires : goal.passed_with-n-requires
 passed_with-n-requires c = c.loop-i.invariant.1.0.0

@@ -28,8 +28,7 @@ next_site-k-requires c = omega arith
 pub loop-i-init : goal.loop-i-init
 loop-i-init c =
     let a = c.args in
-    let e = rows-length a.rows.now a.due.now 0 a.n in
-    (
+    let e = rows-length a.rows.now a.due.now 0 a.n in (
       omega arith,
       (
         c.requires.standing.some,

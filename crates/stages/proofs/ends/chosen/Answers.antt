@@ -2,4 +2,4 @@
 use Rattle.stages.proofs.ends.chosen.Goals as goal
 
 pub returns : goal.returns
-returns c = (c.type_inv.result, rw (← c.type_at-b.ensures) c.type_inv.ensures, c.on_to.ensures)
+returns c = (c.typed-c.result, rw (← c.type_at-b.ensures) c.typed-c.ensures, c.on_to.ensures)
