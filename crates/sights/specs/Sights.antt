@@ -97,10 +97,10 @@ module _ (ws : List ℕ) (ds : List ℤ) (ts ls : List ℕ) (count n : ℕ) (N :
     plain_of Point e = tt
     plain_of (Sink pin) e = absurd (let z : ◌≡◌ {A = ℕ} 0 1 = cc in omega arith)
 
-    pin_of : (kind : Kind) → is_sink kind ≡ true → (pin : Pin) × (kind ≡ Sink pin)
-    pin_of Driver e = absurd (let z : ◌≡◌ {A = ℕ} 0 1 = cc in omega arith)
-    pin_of Point e = absurd (let z : ◌≡◌ {A = ℕ} 0 1 = cc in omega arith)
-    pin_of (Sink pin) e = (pin, refl)
+    pin-there : (kind : Kind) → is_sink kind ≡ true → (pin : Pin) × (kind ≡ Sink pin)
+    pin-there Driver e = absurd (let z : ◌≡◌ {A = ℕ} 0 1 = cc in omega arith)
+    pin-there Point e = absurd (let z : ◌≡◌ {A = ℕ} 0 1 = cc in omega arith)
+    pin-there (Sink pin) e = (pin, refl)
 
     first-row : is_sink x.kind ≡ false → first ≡ child R c (c + 1)
     first-row e = first-is ∙ rw e (N.linked.first c inside)
@@ -194,12 +194,12 @@ module _ (ws : List ℕ) (ds : List ℤ) (ts ls : List ℕ) (count n : ℕ) (N :
       sight-able = go (is_sink x.kind) refl
         where
           go : (b : Bool) → is_sink x.kind ≡ b → Able ts j w₂
-          go true e = let q = pin_of x.kind e in sink-able q.0 q.1
+          go true e = let q = pin-there x.kind e in sink-able q.0 q.1
           go false e = plain-able e
 
       pub sight-made : (w₃ : List Cand) (own : ℕ) → Worked ts j w₂ w₃ own → Made types (seen_at R c) (cands w₁) (cands w₃) p own
       sight-made w₃ own g = rw (past_end p) at (go (is_sink x.kind) refl)
         where
           go : (b : Bool) → is_sink x.kind ≡ b → Made types (seen_at R c) (cands w₁) (cands w₃) a own
-          go true e = let q = pin_of x.kind e in sink-made q.0 q.1 w₃ own g
+          go true e = let q = pin-there x.kind e in sink-made q.0 q.1 w₃ own g
           go false e = plain-made e w₃ own g
