@@ -1,3 +1,0 @@
-pub mod EntryCalls
-pub mod PlanCalls
-pub mod ListCalls
