@@ -22,7 +22,8 @@ use Rattle.values.specs.Records.{cands}
 use Rattle.runs.specs.Cands.{cands-length}
 use Rattle.records.specs.Entries.{Plans, ChoseIf, ToldIf, Verdict, is_accepted}
 use Rattle.records.specs.Planning.{verdict-plans, choice}
-use Rattle.stands.specs.Work.{WorkAlike, Left, work-alike, untold, left_by, told-by}
+use Rattle.stands.specs.Work.{WorkAlike, Left, untold}
+use Rattle.stands.proofs.Work.{work-alike, left_by, told-by}
 
 -- a net in its tables
 abbrev net_of : (types rows : List ℕ) (due : List ℤ) (count n : ℕ) → Handed
