@@ -27,7 +27,8 @@ use Rattle.laws.specs.Method.{Reaches, planned, Proper}
 use Rattle.laws.specs.Rows.{row_in}
 use Rattle.laws.specs.Whole.{tree-at}
 use Rattle.laws.specs.Within.{within-tree}
-use Rattle.laws.specs.Listing.{pair_of, front-pairs, listed-length}
+use Rattle.laws.specs.Listing.{pair_of, front-pairs}
+use Rattle.laws.proofs.Listing.{listed-length}
 use Rattle.laws.specs.Walk.{no_row, seen_at, at_row-seen}
 use Rattle.laws.specs.Tabled.{row_at, rows_from, rows-length, repeaters_from}
 use Rattle.laws.specs.Picked.{pick_in, pick_of, PickedOf}

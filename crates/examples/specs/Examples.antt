@@ -25,8 +25,10 @@ use Rattle.laws.specs.Steps.{value, best, pick, buffered, joined, merge, merge_a
 use Rattle.laws.specs.Moves.{behind, wire_step, type_step, site_step}
 use Rattle.laws.specs.Trees.{slack_is}
 use Rattle.laws.specs.Trees.{time as time_of}
-use Rattle.laws.specs.Method.{Proper, Reaches, pinned, front_of, method, planned}
-use Rattle.laws.specs.Listing.{pair_of, lone, listed, Meets, meeting, meeting-unbeaten}
+use Rattle.laws.specs.Method.{Proper, Reaches, pinned, front_of, planned}
+use Rattle.laws.proofs.Method.{method}
+use Rattle.laws.specs.Listing.{pair_of, lone, Meets, meeting}
+use Rattle.laws.proofs.Listing.{listed, meeting-unbeaten}
 use Rattle.laws.specs.Lists.{any-all, EveryTwo, leads, ends}
 
 -- ---- what an example says
@@ -114,23 +116,23 @@ best-meeting driver slack u a e = record {
 -- ---- the nets
 -- `T 2 3 10`, `D 20`, `W 0 4 5 1`, `S 1 6 7 0 8 1000`
 abbrev pub net_a : String
-net_a = "T\t2\t3\t10\n_d\t20\n_w\t0\t4\t5\t1\n_s\t1\t6\t7\t0\t8\t1000\n"
+net_a = "T\t2\t3\t10\nD\t20\nW\t0\t4\t5\t1\nS\t1\t6\t7\t0\t8\t1000\n"
 
 -- with `D 0`
 abbrev pub net_a-strong : String
-net_a-strong = "T\t2\t3\t10\n_d\t0\n_w\t0\t4\t5\t1\n_s\t1\t6\t7\t0\t8\t1000\n"
+net_a-strong = "T\t2\t3\t10\nD\t0\nW\t0\t4\t5\t1\nS\t1\t6\t7\t0\t8\t1000\n"
 
 -- with `T 2 3 20` and `D 1`
 abbrev pub net_a-even : String
-net_a-even = "T\t2\t3\t20\n_d\t1\n_w\t0\t4\t5\t1\n_s\t1\t6\t7\t0\t8\t1000\n"
+net_a-even = "T\t2\t3\t20\nD\t1\nW\t0\t4\t5\t1\nS\t1\t6\t7\t0\t8\t1000\n"
 
 -- `T 2 3 10`, `D 20`, `W 0 4 5 0`, `S 1 6 7 1 8 1000`, `S 1 0 3 1 30 950`
 abbrev pub net_b : String
-net_b = "T\t2\t3\t10\n_d\t20\n_w\t0\t4\t5\t0\n_s\t1\t6\t7\t1\t8\t1000\n_s\t1\t0\t3\t1\t30\t950\n"
+net_b = "T\t2\t3\t10\nD\t20\nW\t0\t4\t5\t0\nS\t1\t6\t7\t1\t8\t1000\nS\t1\t0\t3\t1\t30\t950\n"
 
 -- `D 20`, `S 0 0 0 0 8 1000`
 abbrev pub net_c : String
-net_c = "D\t20\n_s\t0\t0\t0\t0\t8\t1000\n"
+net_c = "D\t20\nS\t0\t0\t0\t0\t8\t1000\n"
 
 -- their types, and what is at their rows
 unfoldable pub types_by : ℕ → List Repeater

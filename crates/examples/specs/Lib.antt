@@ -4,6 +4,4 @@ pub mod Needless
 pub mod Given
 pub mod Refused
 pub mod Kept
-pub mod StandIns
 pub mod StandInLists
-pub mod StandInLoads

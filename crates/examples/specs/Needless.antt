@@ -30,7 +30,7 @@ use Rattle.examples.specs.Examples.{marked, marked-legal, IsPlanned, IsList, pai
 
 -- `T 2 0 0`, `D 1`, `W 0 0 0 1`, `S 1 0 10 1 5 1000`
 abbrev pub net_n : String
-net_n = "T\t2\t0\t0\n_d\t1\n_w\t0\t0\t0\t1\n_s\t1\t0\t10\t1\t5\t1000\n"
+net_n = "T\t2\t0\t0\nD\t1\nW\t0\t0\t0\t1\nS\t1\t0\t10\t1\t5\t1000\n"
 
 unfoldable pub types_n : List Repeater
 types_n = record { input = 2; resistance = 0; own = 0 } ∷ []

@@ -84,29 +84,29 @@ pub record Refused : Type 0 where
   -- `D 5` alone, 5 at line 1
   pub alone : refusal "D\t5\n" ≡ some (Childless 1)
   -- a pin of 100,001, 2, while 100,000 is taken
-  pub pin_over : refusal "D\t5\n_s\t0\t0\t0\t0\t100001\t0\n" ≡ some (Range 2)
-  pub pin_most : refusal "D\t5\n_s\t0\t0\t0\t0\t100000\t0\n" ≡ none
+  pub pin_over : refusal "D\t5\nS\t0\t0\t0\t0\t100001\t0\n" ≡ some (Range 2)
+  pub pin_most : refusal "D\t5\nS\t0\t0\t0\t0\t100000\t0\n" ≡ none
   -- `007`, 1
-  pub zeros : refusal "D\t007\n_s\t0\t0\t0\t0\t1\t0\n" ≡ some (Form 1)
+  pub zeros : refusal "D\t007\nS\t0\t0\t0\t0\t1\t0\n" ≡ some (Form 1)
   -- a row whose parent is itself, 4
-  pub itself : refusal "D\t5\n_s\t1\t0\t0\t0\t1\t0\n" ≡ some (Parent 2)
+  pub itself : refusal "D\t5\nS\t1\t0\t0\t0\t1\t0\n" ≡ some (Parent 2)
   -- parent 300 and capacitance 100,001 together, 2
-  pub both_over : refusal "D\t5\n_s\t300\t0\t100001\t0\t1\t0\n" ≡ some (Range 2)
+  pub both_over : refusal "D\t5\nS\t300\t0\t100001\t0\t1\t0\n" ≡ some (Range 2)
   -- a fifth type with resistance 100,001, 2
-  pub fifth_over : refusal "T\t1\t1\t1\n_t\t1\t1\t1\n_t\t1\t1\t1\n_t\t1\t1\t1\n_t\t1\t100001\t1\n_d\t5\n" ≡ some (Range 5)
-  pub fifth : refusal "T\t1\t1\t1\n_t\t1\t1\t1\n_t\t1\t1\t1\n_t\t1\t1\t1\n_t\t1\t1\t1\n_d\t5\n" ≡ some (Room 5)
+  pub fifth_over : refusal "T\t1\t1\t1\nT\t1\t1\t1\nT\t1\t1\t1\nT\t1\t1\t1\nT\t1\t100001\t1\nD\t5\n" ≡ some (Range 5)
+  pub fifth : refusal "T\t1\t1\t1\nT\t1\t1\t1\nT\t1\t1\t1\nT\t1\t1\t1\nT\t1\t1\t1\nD\t5\n" ≡ some (Room 5)
   -- the last line not ended; no driver; a row before the driver; a second driver; a minus where none may be; `-0`
-  pub unended : refusal "D\t5\n_s\t0\t0\t0\t0\t1\t0" ≡ some (Form 2)
+  pub unended : refusal "D\t5\nS\t0\t0\t0\t0\t1\t0" ≡ some (Form 2)
   pub no_driver : refusal "T\t1\t1\t1\n" ≡ some (Form 2)
-  pub row_first : refusal "S\t300\t0\t0\t0\t1\t0\n_d\t5\n" ≡ some (Form 1)
-  pub two_drivers : refusal "D\t5\n_d\t100001\n" ≡ some (Form 2)
-  pub minus : refusal "D\t-5\n_s\t0\t0\t0\t0\t1\t0\n" ≡ some (Form 1)
-  pub minus_zero : refusal "D\t5\n_s\t0\t0\t0\t0\t1\t-0\n" ≡ some (Form 2)
+  pub row_first : refusal "S\t300\t0\t0\t0\t1\t0\nD\t5\n" ≡ some (Form 1)
+  pub two_drivers : refusal "D\t5\nD\t100001\n" ≡ some (Form 2)
+  pub minus : refusal "D\t-5\nS\t0\t0\t0\t0\t1\t0\n" ≡ some (Form 1)
+  pub minus_zero : refusal "D\t5\nS\t0\t0\t0\t0\t1\t-0\n" ≡ some (Form 2)
   -- a sink as parent; a point with nothing below it
-  pub under_sink : refusal "D\t5\n_s\t0\t0\t0\t0\t1\t-1\n_s\t1\t0\t0\t0\t1\t0\n" ≡ some (Parent 3)
-  pub childless_point : refusal "D\t5\n_w\t0\t0\t0\t0\n_w\t0\t0\t0\t0\n_s\t1\t0\t0\t0\t1\t0\n" ≡ some (Childless 3)
+  pub under_sink : refusal "D\t5\nS\t0\t0\t0\t0\t1\t-1\nS\t1\t0\t0\t0\t1\t0\n" ≡ some (Parent 3)
+  pub childless_point : refusal "D\t5\nW\t0\t0\t0\t0\nW\t0\t0\t0\t0\nS\t1\t0\t0\t0\t1\t0\n" ≡ some (Childless 3)
   -- the first of two such
-  pub childless_first : refusal "D\t5\n_w\t0\t0\t0\t0\n_w\t0\t0\t0\t0\n" ≡ some (Childless 2)
+  pub childless_first : refusal "D\t5\nW\t0\t0\t0\t0\nW\t0\t0\t0\t0\n" ≡ some (Childless 2)
   -- 6: a type that the net hasn't, at the line of the site's row; a site that it hasn't, at 0; the lowest site first
   pub no_type : as_timed (tables_in net_a) (2 ∷ 0 ∷ 0 ∷ 0 ∷ []) ≡ some (Mark 3)
   pub no_site : as_timed (tables_in net_a) (16 ∷ 0 ∷ 0 ∷ 0 ∷ []) ≡ some (Mark 0)

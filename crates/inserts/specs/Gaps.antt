@@ -11,7 +11,7 @@ use Rattle.rules.specs.Placements.{Placement}
 use Rattle.laws.specs.Integers.{times}
 use Rattle.laws.specs.Lists.{all_head, EveryTwo, leads}
 use Rattle.laws.specs.Candidates.{Covers, Below, thin_in}
-use Rattle.laws.specs.Ties.{thin-covered}
+use Rattle.laws.proofs.Ties.{thin-covered}
 use Rattle.columns.specs.Parts.{part, part-nil, part-cons, part-snoc, part-over, part-under, part-less, part-part, part-split, part-all, part-first}
 use Rattle.columns.specs.Run.{Candidate, candidate, blank, run, run_at, run_long, place_at}
 use Rattle.pairs.specs.Stands.{is_below, is_covering, is_covered, below-yes, below-no, covering-yes, covering-no, covered-yes, covered-no, thin-aboves, thin-coverings, thin-below, stands-below}

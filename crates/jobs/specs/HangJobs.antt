@@ -9,7 +9,7 @@ use Rattle.rules.specs.Net.{Wire}
 use Rattle.laws.specs.Joining.{join_marks}
 use Rattle.laws.specs.Steps.{merge}
 use Rattle.laws.specs.Moves.{wire_step}
-use Rattle.laws.specs.Bounds.{wire_step-length}
+use Rattle.laws.proofs.Bounds.{wire_step-length}
 use Rattle.columns.specs.Parts.{part, part-less, part-part, part_length}
 use Rattle.columns.specs.Run.{Candidate}
 use Rattle.columns.specs.Made.{Stand, Gives, wire_of}

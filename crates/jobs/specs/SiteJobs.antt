@@ -13,7 +13,7 @@ use Rattle.rules.specs.Entries.{Repeater}
 use Rattle.rules.specs.Placements.{marks}
 use Rattle.rules.specs.Slack.{type_of, repeater_delay}
 use Rattle.rules.specs.Refusals.{is_sink}
-use Rattle.units.specs.Times.{own_of}
+use Rattle.units.proofs.Times.{own_of}
 use Rattle.repeaters.specs.Repeaters.{buffer_of, buffer_at}
 use Rattle.laws.specs.Lists.{all-self, any-imp, EveryTwo}
 use Rattle.laws.specs.Candidates.{Below, thin_in, covers-refl, front-in}

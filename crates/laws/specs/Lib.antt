@@ -8,9 +8,7 @@ pub mod Trees
 pub mod Joining
 pub mod Merging
 pub mod Moves
-pub mod Ties
 pub mod Method
-pub mod Bounds
 pub mod Ranges
 pub mod Taken
 pub mod Accepted
@@ -35,4 +33,3 @@ pub mod Words
 pub mod Checked
 pub mod Reading
 pub mod Picked
-pub mod Called

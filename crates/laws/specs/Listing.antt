@@ -1,27 +1,24 @@
--- From the method's candidates to the paper's pairs: the list at a row is the unbeaten pairs that legal placements reach there, in one
--- order, and no longer than one and one for each type at each site at or below. Assumes nothing.
-use Rattle.std.specs.Prelude.{◌≡◌, refl, List, [], ◌∷◌, map, ◌↔◌, ℕ, ◌+◌, ◌*◌, ◌≤◌, ℤ, length}
+-- From the method's candidates to the paper's pairs: the pairs of a front are the unbeaten pairs, in one order; and the list of two lists
+-- that meet at a branch. Assumes nothing.
+use Rattle.std.specs.Prelude.{◌≡◌, refl, List, [], ◌∷◌, map, ◌↔◌, ℕ, ◌+◌, ℤ}
 use Rattle.std.proofs.Math.Path.{sym, ap}
-use Rattle.std.proofs.Common.{subst, ◌∙◌, ⊎_elim, le_refl}
+use Rattle.std.proofs.Common.{subst, ◌∙◌}
 use Rattle.std.proofs.Math.Bridge.{le_prop}
 use Rattle.std.proofs.Math.Dec.{T_prop}
-use Rattle.std.proofs.lemmas.List.{length-map}
 use Rattle.std.specs.Int.Signed.{lt_z}
 use Rattle.rules.specs.Lists.{All, Any, Least, nil, cons, here, there}
 use Rattle.rules.specs.Entries.{Repeater}
 use Rattle.rules.specs.Placements.{Placement}
 use Rattle.rules.specs.Net.{Tree}
-use Rattle.rules.specs.Pairs.{Pair, NoWorse, Beats, Unbeaten, Reached, sites_on}
+use Rattle.rules.specs.Pairs.{Pair, NoWorse, Beats, Unbeaten, Reached}
 use Rattle.rules.specs.Pairs.{Below as PairBelow}
-use Rattle.laws.specs.Lists.{all_head, all_tail, all_map, any-map, any-all, all-self, any-imp, EveryTwo, ends, leads, two-pairwise, pairwise-two}
+use Rattle.laws.specs.Lists.{all_head, all_tail, all_map, any-map, any-all, EveryTwo, ends, leads, two-pairwise, pairwise-two}
 use Rattle.laws.specs.Candidates.{Cand, Same, Front, pair, front-unique, front-unbeaten, unbeaten-front}
 use Rattle.laws.specs.Candidates.{Beats as CandBeats}
 use Rattle.laws.specs.Candidates.{Unbeaten as CandUnbeaten}
-use Rattle.laws.specs.Integers.{≤-refl, Lesser, min-lesser}
-use Rattle.laws.specs.Steps.{joined, Joins, merge, front-merge}
+use Rattle.laws.specs.Steps.{merge}
 use Rattle.laws.specs.Trees.{least-unique, time-is}
-use Rattle.laws.specs.Method.{Proper, Reaches, cand_of, reaches, front_of, method}
-use Rattle.laws.specs.Bounds.{reached-length}
+use Rattle.laws.specs.Method.{Reaches, cand_of, reaches}
 
 -- the pair of a candidate, its placement forgotten
 unfoldable pub pair_of : {W : Type 0} → Cand W → Pair
@@ -36,7 +33,7 @@ two-map f g ends = ends
 two-map f g (leads {x = x} h t) = leads (all_map f (g x) h) (two-map f g t)
 
 -- one pair is below another in one way
-below-once : (a b : Pair) → IsProp (PairBelow a b)
+pub below-once : (a b : Pair) → IsProp (PairBelow a b)
 below-once a b x y = λ i. record { load = le_prop x.load y.load i; time = record { lt = T_prop (lt_z a.time b.time) x.time.lt y.time.lt i } }
 
 -- the pairs of a front of Q are the unbeaten pairs of R, where R is the pairs of Q's candidates
@@ -91,7 +88,7 @@ pub record NoneBeats (R : Pair → Type 0) (c : Pair) : Type 0 where
   pub none : (d : Pair) → R d → ¬ (Beats d c)
 
 module _ {R : Pair → Type 0} where
-  front-lone : {l : List Pair} → Unbeaten R l → Front (λ c. R (pair_of c)) (map lone l)
+  pub front-lone : {l : List Pair} → Unbeaten R l → Front (λ c. R (pair_of c)) (map lone l)
   unfolding pair_of lone
   front-lone {l} u = record {
     rising = two-map lone (λ a b h. record { light = h.load; early = h.time }) (pairwise-two u.rising);
@@ -123,16 +120,6 @@ module _ {R : Pair → Type 0} where
   pub listed-iff : {l : List Pair} (c : Pair) → Unbeaten R l → Any (λ m. m ≡ c) l ↔ NoneBeats R c
   listed-iff c u = (λ h. let (m, n, e) = any-all (listed-unbeaten u) h in subst (NoneBeats R) e n, unbeaten-listed c u)
 
--- ---- at any place of a net
-module _ (types : List Repeater) (t : Tree) (ok : Proper t) where
-  -- there is a list
-  pub listed : Unbeaten (Reached types t) (map pair_of (front_of types t))
-  listed = front-pairs types t (method types t ok)
-
-  -- its length is at most one and one for each type at each site at or below
-  pub listed-length : (l : List Pair) → Unbeaten (Reached types t) l → length l ≤ 1 + length types * sites_on t
-  listed-length l u = rw (unbeaten-unique u listed, length-map (front_of types t) pair_of) (reached-length types t (front_of types t) ok (method types t ok))
-
 -- ---- two lists meeting at a branch
 -- one of l and one of m beside each other: loads add, and the lesser time counts
 pub record Meets (l m : List Pair) (c : Pair) : Type 0 where
@@ -143,32 +130,6 @@ pub record Meets (l m : List Pair) (c : Pair) : Type 0 where
   pub load : c.load ≡ left.load + right.load
   pub time : Least c.time (left.time ∷ right.time ∷ [])
 
-no-worse : {a b : Pair} → a ≡ b → NoWorse a b
-no-worse {a} {b} e = rw e (record { load = le_refl _; time = ≤-refl _ })
-
--- a rising list is the unbeaten ones of its own pairs
-rising-unbeaten : {l : List Pair} → EveryTwo PairBelow l → Unbeaten (λ c. Any (λ x. x ≡ c) l) l
-rising-unbeaten {l} r = record { rising = two-pairwise below-once r; reached = all-self l; whole = λ c h. any-imp (λ m e. no-worse e) h }
-
 -- the branch's list
 unfoldable pub meeting : (l m : List Pair) → List Pair
 meeting l m = map pair_of (merge (λ a b. tt) (map lone l) (map lone m))
-
-lesser-least : {a b m : ℤ} → Lesser a b m → Least m (a ∷ b ∷ [])
-lesser-least h = record { below = cons h.left (cons h.right nil); among = ⊎_elim here (λ e. there (here e)) h.one }
-
--- it is the unbeaten ones of all the pairs that meet
-pub meeting-unbeaten : {l m : List Pair} → EveryTwo PairBelow l → EveryTwo PairBelow m → Unbeaten (Meets l m) (meeting l m)
-unfolding meeting pair_of lone joined
-meeting-unbeaten {l} {m} r s = pairs-front up down (front-merge (λ a b. tt) (front-lone (rising-unbeaten r)) (front-lone (rising-unbeaten s)))
-  where
-    Of : List Pair → Cand (Unit {0}) → Type 0
-    Of k c = Any (λ x. x ≡ pair_of c) k
-
-    up : (c : Cand (Unit {0})) → Joins (λ a b. tt) (Of l) (Of m) c → Meets l m (pair_of c)
-    up c (a, b, p, q, e) = record { left = pair_of a; right = pair_of b; left_in = p; right_in = q; load = ap (λ x. x.load) e; time = rw e (lesser-least (min-lesser a.time b.time)) }
-
-    down : (c : Pair) → Meets l m c → (d : Cand (Unit {0})) × Joins (λ a b. tt) (Of l) (Of m) d × (pair_of d ≡ c)
-    down c h =
-        let e = least-unique (lesser-least (min-lesser h.left.time h.right.time)) h.time in
-        (joined (λ a b. tt) (lone h.left) (lone h.right), (lone h.left, lone h.right, h.left_in, h.right_in, refl), λ i. record { load = sym h.load i; time = e i })

@@ -21,7 +21,8 @@ use Rattle.rules.specs.Answers.{list_figures}
 use Rattle.rules.specs.Promises.{CheckPromise, list_refusal, ListOf, ListPromise, tabled}
 use Rattle.laws.specs.Candidates.{Front}
 use Rattle.laws.specs.Method.{Reaches}
-use Rattle.laws.specs.Listing.{pair_of, front-pairs, listed-length}
+use Rattle.laws.specs.Listing.{pair_of, front-pairs}
+use Rattle.laws.proofs.Listing.{listed-length}
 use Rattle.laws.specs.Walk.{seen_at, at_row-seen}
 use Rattle.laws.specs.Tabled.{rows_from, rows-length, repeaters_from}
 use Rattle.laws.specs.Checked.{Passed, passed-own, short-own, checked-stopped, checked-passed}

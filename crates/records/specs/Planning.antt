@@ -33,7 +33,7 @@ use Rattle.turns.specs.declared.Pass.{Pass}
 use Rattle.values.specs.Records.{cand_of, cands}
 use Rattle.runs.specs.Cands.{cands-length}
 use Rattle.runs.specs.Passes.{Safe, Swept}
-use Rattle.units.specs.Times.{own_of}
+use Rattle.units.proofs.Times.{own_of}
 use Rattle.runs.specs.Choices.{choices-safe, choices-swept}
 use Rattle.runs.specs.Puts.{puts-safe, puts-clear}
 use Rattle.sights.specs.Hanging.{Makes, Seen}

@@ -11,10 +11,13 @@ use Rattle.rules.specs.Pairs.{sites_on}
 use Rattle.laws.specs.Lists.{EveryTwo}
 use Rattle.laws.specs.Integers.{minℤ, min-swap, min-turn}
 use Rattle.laws.specs.Candidates.{Cand, Below}
-use Rattle.laws.specs.Steps.{merge, merge-rising}
+use Rattle.laws.specs.Steps.{merge}
+use Rattle.laws.proofs.Steps.{merge-rising}
 use Rattle.laws.specs.Joining.{join_marks}
-use Rattle.laws.specs.Merging.{merge-swap, merge-turn, join-swap, join-turn}
-use Rattle.laws.specs.Method.{front_of, method}
+use Rattle.laws.specs.Merging.{join-swap, join-turn}
+use Rattle.laws.proofs.Merging.{merge-swap, merge-turn}
+use Rattle.laws.specs.Method.{front_of}
+use Rattle.laws.proofs.Method.{method}
 use Rattle.laws.specs.Trees.{time}
 use Rattle.laws.specs.Ranges.{weight, stages}
 use Rattle.laws.specs.Hanging.{OnIf, ProperIf}

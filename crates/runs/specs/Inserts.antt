@@ -6,7 +6,7 @@ use Rattle.std.proofs.Math.Decide.{dec_lt}
 use Rattle.rules.specs.declared.Femtosecond.{Femtosecond}
 use Rattle.rules.specs.Quantities.{work_room}
 use Rattle.laws.specs.Candidates.{Covers, Below, thin_in}
-use Rattle.laws.specs.Ties.{thin-covered}
+use Rattle.laws.proofs.Ties.{thin-covered}
 use Rattle.columns.specs.Parts.{part, part-nil, part-cons, part-snoc, part-over, part-under, part_length}
 use Rattle.columns.specs.Run.{Candidate, blank}
 use Rattle.columns.specs.Made.{Gives}

@@ -1,15 +1,16 @@
--- Every step of the method as one table of statements with one proof: where columns and a run of records stand for the same candidates up to
--- the first unused place before the step, they do after it. A statement says first that what the function over the records asks of its run
--- holds where what the columns' function asks for does, then what stands alike once both have run; clearing asks for its room alone. What is
--- asked of a job or of the tables is not about candidates, and is not repeated. The premises are what the contracts of the functions named
--- say. A statement stands beside its proof, in the file that is named last; that the entries give the same is in `Entries`. Assumes nothing.
-use Rattle.stands.specs.Steps.{PinAlike, WireAlike, JoinAlike, MoveAlike, pin-alike, wire-alike, join-alike, move-alike}
-use Rattle.stands.specs.Choices.{SiteBegins, ChoiceAlike, site-begins, choice-alike}
-use Rattle.stands.specs.Puts.{PutAlike, SettleAlike, put-alike, settle-alike}
-use Rattle.stands.specs.Jobs.{SameSite, RepeatersAlike, SinkAlike, same-site, repeaters-alike, sink-alike}
-use Rattle.stands.specs.Hangs.{AloneAlike, HangAlike, alone-alike, hang-alike}
-use Rattle.stands.specs.Ends.{DriverAlike, ClearAlike, driver-alike, clear-alike}
-use Rattle.stands.specs.Rows.{SinkListAlike, SeenAlike, BelowAlike, MakeAlike, sink-list-alike, seen_alike, below_alike, make-alike}
+-- Every step of the method as one table of statements, with one proof in proofs/: where columns and a run of records stand for the same
+-- candidates up to the first unused place before the step, they do after it. A statement says first that what the function over the records
+-- asks of its run holds where what the columns' function asks for does, then what stands alike once both have run; clearing asks for its
+-- room alone. What is asked of a job or of the tables is not about candidates, and is not repeated. The premises are what the contracts of
+-- the functions named say. A statement stands in the file that is named last, and its proof in the file of that name in proofs/; that the
+-- entries give the same is in `Entries`, in proofs/. Assumes nothing.
+use Rattle.stands.specs.Steps.{PinAlike, WireAlike, JoinAlike, MoveAlike}
+use Rattle.stands.specs.Choices.{SiteBegins, ChoiceAlike}
+use Rattle.stands.specs.Puts.{PutAlike, SettleAlike}
+use Rattle.stands.specs.Jobs.{SameSite, RepeatersAlike, SinkAlike}
+use Rattle.stands.specs.Hangs.{AloneAlike, HangAlike}
+use Rattle.stands.specs.Ends.{DriverAlike, ClearAlike}
+use Rattle.stands.specs.Rows.{SinkListAlike, SeenAlike, BelowAlike, MakeAlike}
 
 pub record EveryStep : Type 0 where
   -- a pin put down: `columns::cells::put_pin`; a pass that puts one record. Steps
@@ -50,26 +51,3 @@ pub record EveryStep : Type 0 where
   pub driver : DriverAlike
   -- the area cleared: `clearing::clear`; `records::clear`. Ends
   pub clear : ClearAlike
-
-pub every-step : EveryStep
-every-step = record {
-  pin = pin-alike;
-  wire = wire-alike;
-  join = join-alike;
-  move = move-alike;
-  begins = site-begins;
-  choice = choice-alike;
-  put = put-alike;
-  settle = settle-alike;
-  number = same-site;
-  repeaters = repeaters-alike;
-  sink = sink-alike;
-  sink_list = sink-list-alike;
-  alone = alone-alike;
-  hang = hang-alike;
-  seen = seen_alike;
-  below = below_alike;
-  make = make-alike;
-  driver = driver-alike;
-  clear = clear-alike;
-}

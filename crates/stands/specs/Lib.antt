@@ -9,4 +9,3 @@ pub mod Ends
 pub mod Rows
 pub mod Every
 pub mod Work
-pub mod Entries

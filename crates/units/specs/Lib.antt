@@ -1,3 +1,2 @@
--- What the contracts of `units` cite, and the laws that callers cite. Assumes nothing.
+-- What the contracts of `units` cite. Assumes nothing.
 pub mod Times
-pub mod Bits

@@ -19,8 +19,9 @@ use Rattle.laws.specs.Thinning.{climbed}
 use Rattle.laws.specs.Steps.{merge}
 use Rattle.laws.specs.Moves.{wire_step, site_step, type_step}
 use Rattle.laws.specs.Joining.{join_marks, with_mark}
-use Rattle.laws.specs.Method.{Proper, Reaches, pinned, cand_of, reaches, empty-legal, front-sink, front-wire, front-both, front-site, front_of}
-use Rattle.laws.specs.Bounds.{reached-length}
+use Rattle.laws.specs.Method.{Proper, Reaches, pinned, cand_of, reaches, empty-legal, front-sink, front_of}
+use Rattle.laws.proofs.Method.{front-wire, front-both, front-site}
+use Rattle.laws.proofs.Bounds.{reached-length}
 use Rattle.laws.specs.Accepted.{Accepted}
 use Rattle.laws.specs.Hanging.{OnIf, ProperIf}
 use Rattle.laws.specs.Sums.{over}

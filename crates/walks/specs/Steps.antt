@@ -8,7 +8,7 @@ use Rattle.laws.specs.Joining.{join_marks, with_mark}
 use Rattle.laws.specs.Steps.{merge}
 use Rattle.laws.specs.Moves.{wire_step, site_step}
 use Rattle.laws.specs.Tabled.{repeaters_from}
-use Rattle.laws.specs.Bounds.{wire_step-length}
+use Rattle.laws.proofs.Bounds.{wire_step-length}
 use Rattle.columns.specs.Parts.{part, part_length, part-less, part-part}
 use Rattle.columns.specs.Run.{Candidate}
 use Rattle.columns.specs.Made.{Room, Stand, Gives}

@@ -21,7 +21,8 @@ use Rattle.rules.specs.Areas.{Columns, columns, unlent, Lent, lent_of, PlanAreas
 use Rattle.rules.specs.Answers.{Timing, refused, done, no_counts, no_timing, read_figures, slack_figures, plan_figures, list_figures}
 use Rattle.rules.specs.Promises.{Handed, tabled, texted, net_refusal, Settled, ReadPromise, CountPromise, SlackPromise, slack_refusal, PlanPromise, PlanOf, ListPromise, list_refusal, ListOf, LoadsPromise}
 use Rattle.laws.specs.Checked.{numbered}
-use Rattle.laws.specs.Picked.{Picks, numbered-picks}
+use Rattle.laws.specs.Picked.{Picks}
+use Rattle.laws.proofs.Picked.{numbered-picks}
 use Rattle.laws.specs.Reading.{ReadAs, not_read, was_read, read_as, tables-as-text}
 use Rattle.zombrict.specs.Texts.{no_tables, no_work, SlackRead, PlanRead, PickRead, ListRead, LoadsRead}
 

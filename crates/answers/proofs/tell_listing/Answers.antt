@@ -1,7 +1,7 @@
 -- `answers::tell_listing` meets its contract: an answer told as it crosses. Assumes nothing.
 use mathlib.Core.Path.{refl, ap, ◌∙◌}
 use Rattle.rules.specs.Answers.{list_figures}
-use Rattle.units.specs.Bits.{bits_back}
+use Rattle.units.proofs.Bits.{bits_back}
 use Rattle.answers.specs.Crossing.{words_are, crossed-done, crossed-refused}
 use Rattle.answers.proofs.tell_listing.Goals as goal
 

@@ -2,7 +2,7 @@
 use mathlib.Core.Path.{refl, ap, ◌∙◌}
 use native.Mathlib.Omega.{arith}
 use Rattle.rules.specs.Answers.{plan_figures, no_timing}
-use Rattle.units.specs.Bits.{bits_back}
+use Rattle.units.proofs.Bits.{bits_back}
 use Rattle.answers.specs.Crossing.{words_are, crossed-done, crossed-refused}
 use Rattle.answers.proofs.tell_planning.Goals as goal
 

@@ -1,7 +1,7 @@
 -- `answers::tell_reading` meets its contract: an answer told as it crosses. Assumes nothing.
 use mathlib.Core.Path.{refl, ap, ◌∙◌}
 use Rattle.rules.specs.Answers.{read_figures, no_counts}
-use Rattle.units.specs.Bits.{bits_back}
+use Rattle.units.proofs.Bits.{bits_back}
 use Rattle.answers.specs.Crossing.{words_are, crossed-done, crossed-refused}
 use Rattle.answers.proofs.tell_reading.Goals as goal
 

@@ -2,7 +2,7 @@
 use mathlib.Core.Path.{refl, ap, ◌∙◌}
 use Prim.Native.Nat.{ℕ}
 use lib.IntN.{pos}
-use Rattle.units.specs.Bits.{bits_back}
+use Rattle.units.proofs.Bits.{bits_back}
 use Rattle.answers.specs.Crossing.{words_are}
 use Rattle.answers.proofs.tell_refusal.Goals as goal
 

@@ -2,7 +2,7 @@
 use mathlib.Core.Path.{ap}
 use native.Mathlib.Omega.{arith}
 use lib.ListN.{set}
-use Rattle.units.specs.Bits.{bits_back}
+use Rattle.units.proofs.Bits.{bits_back}
 use Rattle.branches.proofs.join_turn.Goals as goal
 
 pub returns : goal.returns

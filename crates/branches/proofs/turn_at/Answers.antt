@@ -2,7 +2,7 @@
 use native.Mathlib.Omega.{arith}
 use lib.IntN.{pos}
 use lib.ListN.{get_or}
-use Rattle.units.specs.Bits.{bits_back}
+use Rattle.units.proofs.Bits.{bits_back}
 use Rattle.branches.specs.Lent.{joined-load, turned}
 use Rattle.branches.proofs.turn_at.Goals as goal
 

@@ -4,7 +4,7 @@ use native.Mathlib.Omega.{arith}
 use lib.IntN.{pos}
 use lib.ListN.{get_or}
 use Rattle.rules.specs.Quantities.{work_room}
-use Rattle.units.specs.Bits.{bits_back}
+use Rattle.units.proofs.Bits.{bits_back}
 use Rattle.inserts.specs.Gaps.{thins-kept, thins-put}
 use Rattle.columns.specs.Made.{Room, room-run}
 use Rattle.inserts.proofs.put_in.Goals as goal

@@ -1,6 +1,6 @@
 -- `pairs::time_before` meets its contract. Assumes nothing.
 use mathlib.Core.Path.{◌∙◌}
-use Rattle.units.specs.Times.{less-⊖}
+use Rattle.units.proofs.Times.{less-⊖}
 use Rattle.pairs.proofs.time_before.Goals as goal
 
 pub returns : goal.returns

@@ -3,7 +3,7 @@ use mathlib.Core.Path.{◌∙◌}
 use native.Mathlib.Omega.{arith}
 use lib.Signed.{mag}
 use Rattle.laws.specs.Integers.{⊖-⊖}
-use Rattle.units.specs.Times.{less-⊖}
+use Rattle.units.proofs.Times.{less-⊖}
 use Rattle.pairs.proofs.time_before_repeater.Goals as goal
 
 pub time_before-requires : goal.time_before-requires

@@ -1,7 +1,7 @@
 -- `plan::plan_checked` meets its contract. Assumes nothing.
 use Rattle.plan.specs.Refusing.{plan-short-own, plan-short-work, plan-stopped}
 use Rattle.chosen.specs.Promised.{work-room}
-use Rattle.laws.specs.Picked.{refused-picks}
+use Rattle.laws.proofs.Picked.{refused-picks}
 use Rattle.laws.specs.Checked.{checked-stopped, checked-passed}
 use borrow.Author.Tests.{ltb-false}
 use mathlib.Core.Path.{sym, ◌∙◌}

@@ -5,7 +5,7 @@ use native.Mathlib.Omega.{arith}
 use lib.IntN.{pos}
 use lib.ListN.{get_or}
 use Rattle.rules.specs.Entries.{row_of}
-use Rattle.units.specs.Bits.{bits_back}
+use Rattle.units.proofs.Bits.{bits_back}
 use Rattle.laws.specs.Tabled.{row_at}
 use Rattle.rows.proofs.row_at.Goals as goal
 

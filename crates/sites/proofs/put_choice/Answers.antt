@@ -8,7 +8,7 @@ use lib.Signed.{mag}
 use lib.ListN.{set}
 use Rattle.rules.specs.Entries.{Repeater}
 use Rattle.laws.specs.Joining.{with_mark}
-use Rattle.units.specs.Times.{own_of}
+use Rattle.units.proofs.Times.{own_of}
 use Rattle.repeaters.specs.declared.Buffer.{Buffer}
 use Rattle.repeaters.specs.Repeaters.{IsBuffer, is-buffer}
 use Rattle.sites.specs.Sites.{chosen-made}

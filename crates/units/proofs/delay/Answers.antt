@@ -1,7 +1,7 @@
 -- `units::delay` meets its contract. Assumes nothing.
 use mathlib.Core.Path.{refl}
-use Rattle.units.specs.Times.{product-most}
-use Rattle.units.specs.Bits.{delay-bits, delay-back, fits-delay}
+use Rattle.units.proofs.Times.{product-most}
+use Rattle.units.proofs.Bits.{delay-bits, delay-back, fits-delay}
 use Rattle.units.proofs.delay.Goals as goal
 
 pub overflow_mul-result : goal.overflow_mul-result

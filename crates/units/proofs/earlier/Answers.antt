@@ -1,7 +1,7 @@
 -- `units::earlier` meets its contract. Assumes nothing.
 use mathlib.Core.Path.{sym, ◌∙◌}
 use borrow.Author.Rules.{rules}
-use Rattle.units.specs.Times.{minℤ-later, minℤ-no-later}
+use Rattle.units.proofs.Times.{minℤ-later, minℤ-no-later}
 use Rattle.units.proofs.earlier.Goals as goal
 
 pub returns-then-is_later : goal.returns-then-is_later

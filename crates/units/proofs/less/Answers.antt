@@ -1,8 +1,8 @@
 -- `units::less` meets its contract. Assumes nothing.
 use mathlib.Core.Path.{refl}
 use native.Mathlib.Omega.{arith}
-use Rattle.units.specs.Times.{mag_less}
-use Rattle.units.specs.Bits.{bits_back, less-back, fits-less}
+use Rattle.units.proofs.Times.{mag_less}
+use Rattle.units.proofs.Bits.{bits_back, less-back, fits-less}
 use Rattle.units.proofs.less.Goals as goal
 
 pub overflow_sub-result : goal.overflow_sub-result

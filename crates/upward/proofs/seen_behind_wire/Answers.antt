@@ -2,7 +2,7 @@
 use mathlib.Core.Path.{◌≡◌, ap, ◌∙◌}
 use Prim.Native.Nat.{◌*◌}
 use lib.IntN.{pos}
-use Rattle.units.specs.Times.{less-⊖}
+use Rattle.units.proofs.Times.{less-⊖}
 use Rattle.upward.specs.Hung.{seen-is}
 use Rattle.upward.proofs.seen_behind_wire.Goals as goal
 

@@ -1,7 +1,7 @@
 -- `upward::slack_at` meets its contract. Assumes nothing.
 use mathlib.Core.Path.{◌∙◌}
 use native.Mathlib.Omega.{arith}
-use Rattle.units.specs.Times.{less-⊖}
+use Rattle.units.proofs.Times.{less-⊖}
 use Rattle.upward.specs.Hung.{slack_hung, within-at, slack-seen}
 use Rattle.upward.proofs.slack_at.Goals as goal
 

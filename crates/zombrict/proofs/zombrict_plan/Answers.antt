@@ -1,7 +1,7 @@
 -- `zombrict::zombrict_plan` meets its contract: 7 for the answer, else the promise of the entry and the answer as it crosses. Assumes nothing.
 use mathlib.Core.Path.{refl, sym, ◌∙◌}
 use native.Mathlib.Omega.{arith}
-use Rattle.laws.specs.Picked.{numbered-picks}
+use Rattle.laws.proofs.Picked.{numbered-picks}
 use Rattle.answers.specs.Crossing.{area-short, area-long, called-short, called}
 use Rattle.zombrict.proofs.zombrict_plan.Goals as goal
 

@@ -1,6 +1,6 @@
 -- `columns::cells::put_pin` meets its contract. Assumes nothing.
 use native.Mathlib.Omega.{arith}
-use Rattle.units.specs.Bits.{bits_back}
+use Rattle.units.proofs.Bits.{bits_back}
 use Rattle.marks.specs.Marks.{marks-zero}
 use Rattle.columns.specs.Stores.{puts-as}
 use Rattle.columns.specs.Run.{run-put}

@@ -2,7 +2,7 @@
 use mathlib.Core.Path.{ap, sym, ◌∙◌}
 use native.Mathlib.Omega.{arith}
 use Rattle.laws.specs.Joining.{with_mark}
-use Rattle.units.specs.Bits.{bits_back}
+use Rattle.units.proofs.Bits.{bits_back}
 use Rattle.columns.specs.Stores.{puts-as, puts-again}
 use Rattle.columns.specs.Run.{Candidate, run_at, run-put}
 use Rattle.columns.proofs.cells.typed_at.Goals as goal

@@ -2,7 +2,7 @@
 use native.Mathlib.Omega.{arith}
 use lib.ListN.{get_or}
 use lib.IntN.{pos}
-use Rattle.units.specs.Bits.{bits_back}
+use Rattle.units.proofs.Bits.{bits_back}
 use Rattle.columns.specs.Stores.{column-time, wired-load, wired-store}
 use Rattle.columns.proofs.cells.wired_at.Goals as goal
 

@@ -2,7 +2,7 @@
 use borrow.Author.Tests.{lt-ltb, le-ltb}
 use lib.ListN.{get_or}
 use lib.IntN.{pos}
-use Rattle.units.specs.Bits.{bits_back}
+use Rattle.units.proofs.Bits.{bits_back}
 use Rattle.inserts.proofs.gaps.covered_at.Goals as goal
 
 pub returns-then-i-end : goal.returns-then-i-end

@@ -1,7 +1,7 @@
 -- `inserts::gaps::covering_at` meets its contract. Assumes nothing.
 use lib.ListN.{get_or}
 use lib.IntN.{pos}
-use Rattle.units.specs.Bits.{bits_back}
+use Rattle.units.proofs.Bits.{bits_back}
 use Rattle.inserts.proofs.gaps.covering_at.Goals as goal
 
 pub returns : goal.returns

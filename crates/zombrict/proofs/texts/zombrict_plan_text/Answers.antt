@@ -5,7 +5,7 @@ use borrow.Author.Tests.{lt-ltb, le-ltb}
 use Rattle.rules.specs.Answers.{no_timing, plan_figures}
 use Rattle.rules.specs.declared.Planning.TheVariants.{Refused}
 use Rattle.rules.specs.declared.Refusal.TheVariants.{Short}
-use Rattle.laws.specs.Picked.{numbered-picks}
+use Rattle.laws.proofs.Picked.{numbered-picks}
 use Rattle.answers.specs.Crossing.{area-short, area-long, called-short, called, crossed-refused}
 use Rattle.zombrict.specs.TextLaws.{plan-short, plan-on-text, pick-on-text}
 use Rattle.zombrict.proofs.texts.zombrict_plan_text.Goals as goal

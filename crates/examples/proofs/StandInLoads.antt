@@ -19,8 +19,9 @@ use Rattle.rules.specs.Promises.{list_refusal, ListPromise, LoadsPromise, tabled
 use Rattle.laws.specs.Checked.{short-own}
 use Rattle.examples.specs.Examples.{net_a, net_b, paired, examples}
 use Rattle.examples.specs.Given.{tables_in, counts_in, nets}
-use Rattle.examples.specs.StandIns.{listing-refused}
-use Rattle.examples.specs.StandInLists.{listed-exactly}
+use Rattle.examples.proofs.StandIns.{listing-refused}
+use Rattle.examples.proofs.StandInLists.{listed-exactly}
+use Rattle.examples.proofs.ExactLoads.{loads-exactly}
 open nets use {lends_a, lends_b, rows_a, rows_b}
 
 module _ {W : Type 0} (s : Storage W) (work work' : W) (room : s.short work ≡ false) (before after : List ℕ) (long : ltb (length before) list_room ≡ false) where
@@ -29,16 +30,9 @@ module _ {W : Type 0} (s : Storage W) (work work' : W) (room : s.short work ≡ 
   unfolding LoadsPromise short_lent
   loads-refused r (times, p) = listing-refused s work work' room lends_a r 1 (lent_of before unseen_times) (lent_of after times) (rw long refl) rows_a p
 
-  -- its loads are 2 and 15, and nothing else
-  pub loads-exactly : (a : Listing) → LoadsPromise s (tabled (tables_in net_a) (counts_in net_a)) 1 (loads_areas before work) a (loads_areas after work') → (a ≡ Listed 2) × (after ≡ written (2 ∷ 15 ∷ []) before)
-  unfolding LoadsPromise short_lent
-  loads-exactly a (times, p) =
-      let (e, l, t) = listed-exactly lends_a s work work' room 1 rows_a (lent_of before unseen_times) (lent_of after times) (rw long refl) (paired (2, 855) ∷ paired (15, 910) ∷ []) a examples.P3 p in
-      (e, l)
-
-  -- so no other length is told
+  -- its loads are 2 and 15, and nothing else, so no other length is told
   pub invented-loads : (len : ℕ) → ¬ (len ≡ 2) → ¬ (LoadsPromise s (tabled (tables_in net_a) (counts_in net_a)) 1 (loads_areas before work) (Listed len) (loads_areas after work'))
-  invented-loads len other p = let (e, l) = loads-exactly (Listed len) p in other (cc)
+  invented-loads len other p = let (e, l) = loads-exactly s work work' room before after long (Listed len) p in other (cc)
 
   -- not that of the load of the best time alone
   pub best-load-only : ¬ (LoadsPromise s (tabled (tables_in net_a) (counts_in net_a)) 1 (loads_areas before work) (Listed 1) (loads_areas after work'))

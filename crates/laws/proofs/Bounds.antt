@@ -13,10 +13,12 @@ use Rattle.rules.specs.Net.{Wire, Tree, sink, site, wire, both}
 use Rattle.rules.specs.Pairs.{sites_on}
 use Rattle.laws.specs.Candidates.{Cand, Front, Stand, covers, covered, below, above, stand, put, thin_in, pair, front-unique}
 use Rattle.laws.specs.Thinning.{climbed, climb-length}
-use Rattle.laws.specs.Steps.{Joins, merge, merge-length, front-merge}
+use Rattle.laws.specs.Steps.{Joins, merge}
+use Rattle.laws.proofs.Steps.{merge-length, front-merge}
 use Rattle.laws.specs.Moves.{behind, wire_step, type_step, site_step}
 use Rattle.laws.specs.Joining.{join_marks, with_mark}
-use Rattle.laws.specs.Method.{Proper, Reaches, front_of, method}
+use Rattle.laws.specs.Method.{Proper, Reaches, front_of}
+use Rattle.laws.proofs.Method.{method}
 
 module _ {W : Type 0} where
   -- two fronts of R are as long

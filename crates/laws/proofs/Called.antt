@@ -9,7 +9,8 @@ use Rattle.rules.specs.Answers.{Figures, read_figures, check_figures, slack_figu
 use Rattle.rules.specs.Promises.{Handed, ReadPromise, CheckPromise, CountPromise, SlackPromise, PlanPromise, ListPromise, LoadsPromise}
 use Rattle.rules.specs.Calls.{answer_room, count_words, no_words, timing_words, length_words, Crossed, Lending, Called, refuses, answers, Call, ReadCall, CheckCall, CountCall, SlackCall, PlanCall, ListCall, LoadsCall}
 use Rattle.laws.specs.Settled.{read-settled, check-settled, count-settled, slack-settled, list-settled, loads-settled}
-use Rattle.laws.specs.Picked.{Picks, Words64, plan-settled}
+use Rattle.laws.specs.Picked.{Picks, Words64}
+use Rattle.laws.proofs.Picked.{plan-settled}
 
 -- an answer crosses in one way
 crossed-same : {A : Type 0} {words : A → List ℤ} {f g : Figures A} {before x y : List ℤ} {r s : ℕ} → f ≡ g → Crossed words f before x r → Crossed words g before y s → (r ≡ s) × (x ≡ y)

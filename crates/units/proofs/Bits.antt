@@ -7,7 +7,8 @@ use Rattle.std.specs.Int.{w64}
 use Rattle.std.proofs.Math.Facts.{to_z_pos}
 use Rattle.rules.specs.Quantities.{most_ohms}
 use Rattle.laws.specs.Ranges.{most_load}
-use Rattle.units.specs.Times.{farthest, mag_less, product-most}
+use Rattle.units.specs.Times.{farthest}
+use Rattle.units.proofs.Times.{mag_less, product-most}
 
 pub fits : (z : ℤ) → mag z < 2 ^ 63 → SFits w64 z
 fits z h = record { sfits = h }

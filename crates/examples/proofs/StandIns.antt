@@ -34,7 +34,7 @@ use Rattle.rules.specs.Answers.{Timing, refused, done, no_counts, no_timing, rea
 use Rattle.rules.specs.Promises.{ReadPromise, CheckPromise, SlackPromise, slack_refusal, PlanPromise, PlanOf, ListPromise, net_refusal, tabled}
 use Rattle.rules.specs.Areas.{Storage, short_placement, Lent, short_lent, list_areas, plan_areas}
 use Rattle.laws.specs.Settled.{one-tree, slack-unique, slack-settled, planned-unique, plan-alike}
-use Rattle.examples.specs.Kept.{slack-kept, plan-kept}
+use Rattle.examples.proofs.Kept.{slack-kept, plan-kept}
 use Rattle.examples.specs.Examples.{net_a, net_a-strong, types_by, wire_by, A₀, A₁, IsPlanned, examples}
 use Rattle.examples.specs.Given.{blank, tables_in, counts_in, Lends, States, done-same, slack-given, plan-given, list-given, plan-taken, list-taken, nets}
 open nets use {text_a, none_a, lends_a, lends_a_strong, states_a, states_a_strong}

@@ -12,7 +12,8 @@ use Rattle.rules.specs.Answers.{plan_figures, list_figures, no_timing}
 use Rattle.rules.specs.Areas.{short_placement, Lent, short_lent, Storage, Columns, columns, records, PlanAreas, ListAreas, plan_areas, list_areas}
 use Rattle.rules.specs.Promises.{Handed, net_refusal, list_refusal, PlanOf, ListOf, PlanPromise, ListPromise, tabled}
 use Rattle.rules.specs.Tables.{tables_of, counts_of}
-use Rattle.laws.specs.Picked.{Picks, Words64, refused-picks, plan-settled}
+use Rattle.laws.specs.Picked.{Picks, Words64}
+use Rattle.laws.proofs.Picked.{refused-picks, plan-settled}
 use Rattle.laws.specs.Settled.{list-settled}
 use Rattle.rows.specs.Given.{standing}
 use Rattle.chosen.specs.Promised.{entries_of, pick-of}
@@ -21,7 +22,8 @@ use Rattle.values.specs.Records.{cands}
 use Rattle.runs.specs.Cands.{cands-length}
 use Rattle.records.specs.Entries.{Plans, ChoseIf, ToldIf, Verdict, is_accepted}
 use Rattle.records.specs.Planning.{verdict-plans, choice}
-use Rattle.stands.specs.Work.{WorkAlike, Left, work-alike, untold, left_by, told-by}
+use Rattle.stands.specs.Work.{WorkAlike, Left, untold}
+use Rattle.stands.proofs.Work.{work-alike, left_by, told-by}
 
 -- a net in its tables
 abbrev net_of : (types rows : List ℕ) (due : List ℤ) (count n : ℕ) → Handed
