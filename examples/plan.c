@@ -1,7 +1,8 @@
 /* Plans net A twice, as text and as tables, shows the list at its row 1, the loads of that list alone, and a refusal.
  *
- *   rt staticlib zombrict
- *   cc -Iinclude examples/plan.c target/staticlib/libzombrict.a -o target/plan-example && target/plan-example
+ *   (cd crates/zombrict && rt lib)
+ *   mkdir -p target
+ *   cc -Iinclude examples/plan.c crates/zombrict/out/libzombrict.a -o target/plan-example && target/plan-example
  */
 #include <inttypes.h>
 #include <stdio.h>

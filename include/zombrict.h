@@ -1,6 +1,6 @@
 /* Zombrict: puts repeaters on a routed net so that the slack is the greatest possible.
  *
- * Link target/staticlib/libzombrict.a, which `rt staticlib zombrict` proves and makes. It is for x86-64 Linux, needs
+ * Link crates/zombrict/out/libzombrict.a, which `rt lib` proves and makes in crates/zombrict. It is for x86-64 Linux, needs
  * nothing but memcpy and memset, allocates nothing, keeps nothing between calls and may be called from many threads at once.
  *
  * A NET is a driver, and rows that hang under it as a tree: plain points and sinks, each behind a wire. A plain point has rows below

@@ -1,5 +1,4 @@
-//! With the feature `linked`: links the proved library that `rt staticlib zombrict` makes at the top
-//! of the repository.
+//! With the feature `linked`: links the proved library that `rt lib` makes in crates/zombrict.
 
 use std::path::Path;
 
@@ -8,11 +7,11 @@ fn main() {
         return;
     }
     let here = std::env::var("CARGO_MANIFEST_DIR").expect("set by cargo");
-    let directory = Path::new(&here).join("../target/staticlib");
+    let directory = Path::new(&here).join("../crates/zombrict/out");
     let library = directory.join("libzombrict.a");
     println!("cargo::rerun-if-changed={}", library.display());
     if !library.exists() {
-        println!("cargo::error=no target/staticlib/libzombrict.a: run `rt staticlib zombrict`");
+        println!("cargo::error=no crates/zombrict/out/libzombrict.a: run `rt lib` in crates/zombrict");
     }
     println!("cargo::rustc-link-search=native={}", directory.display());
     println!("cargo::rustc-link-lib=static=zombrict");

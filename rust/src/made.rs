@@ -29,7 +29,7 @@ pub fn compile(source: &str, built: &Path) {
         .args(["-std=c11", "-Wall", "-Wextra", "-Wpedantic", "-Werror", "-O2", "-I"])
         .arg(top.join("include"))
         .arg(top.join(source))
-        .arg(top.join("target/staticlib/libzombrict.a"))
+        .arg(top.join("crates/zombrict/out/libzombrict.a"))
         .arg("-o")
         .arg(built)
         .output()

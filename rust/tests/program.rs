@@ -1,5 +1,5 @@
 //! The planning program from outside: any input ends in the two kinds of output, to the byte. Needs
-//! `target/bin/planner`, which `rt check planner` makes.
+//! `crates/planner/out/planner`, which `rt run` makes there.
 
 use std::io::Write;
 use std::process::{Command, Stdio};
@@ -7,8 +7,8 @@ use zombrict::random::{damage_text, Random, Sketch, Tree, Values};
 use zombrict::{cases, made, nets, recipe, room};
 
 fn program() -> Command {
-    let path = made::top().join("target/bin/planner");
-    assert!(path.exists(), "no target/bin/planner: run `rt check planner`");
+    let path = made::top().join("crates/planner/out/planner");
+    assert!(path.exists(), "no crates/planner/out/planner: run `rt run` in crates/planner");
     made::command(&path)
 }
 

@@ -1,5 +1,5 @@
 -- `clearing::clear_loads` meets its contract. Assumes nothing.
-use Prim.Native.Nat.{ℕ, ◌-◌}
+use Prim.Native.Nat.{ℕ}
 use native.Mathlib.Omega.{arith}
 use Rattle.clearing.specs.Clearing.{clearing-start, clearing-step, clearing-end}
 use Rattle.clearing.proofs.clear_loads.Goals as goal

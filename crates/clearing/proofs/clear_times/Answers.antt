@@ -1,5 +1,4 @@
 -- `clearing::clear_times` meets its contract. Assumes nothing.
-use Prim.Native.Nat.{◌-◌}
 use native.Mathlib.Omega.{arith}
 use lib.IntN.{ℤ, pos}
 use Rattle.clearing.specs.Clearing.{clearing-start, clearing-step, clearing-end}

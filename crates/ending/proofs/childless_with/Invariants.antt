@@ -1,6 +1,6 @@
 -- `ending::childless_with` meets its contract. The loop's invariant: what was found among the rows from i on, and their marks.
 -- Assumes nothing.
-use Prim.Native.Nat.{◌≤◌, ◌-◌}
+use Prim.Native.Nat.{◌≤◌}
 use mathlib.Core.Path.{◌≡◌}
 use lib.ListN.{length}
 use Rattle.ending.specs.Below.{FoundIn}

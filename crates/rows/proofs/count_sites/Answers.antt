@@ -1,5 +1,4 @@
 -- `rows::count_sites` meets its contract. The loop's invariant: the rows passed are counted. The measure is the rows left. Assumes nothing.
-use Prim.Native.Nat.{◌-◌}
 use native.Mathlib.Omega.{arith}
 use Rattle.laws.specs.Tabled.{rows_from, rows-length}
 use Rattle.rows.specs.Links.{counting-start, counting-step, counted, count_next, sites_few}

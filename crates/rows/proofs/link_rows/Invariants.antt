@@ -1,5 +1,5 @@
 -- `rows::link_rows` meets its contract. The loop's invariant: the rows passed are linked. The measure is the row. Assumes nothing.
-use Prim.Native.Nat.{◌-◌, ◌≤◌}
+use Prim.Native.Nat.{◌≤◌}
 use Rattle.laws.specs.Tabled.{rows_from}
 use Rattle.rows.specs.Links.{Linking}
 use Rattle.rows.proofs.link_rows.Given as goal

@@ -1,6 +1,6 @@
 -- `sights::below`, `sights::beside` and `sights::seen` meet their contracts. Assumes nothing.
 use native.Mathlib.Omega.{arith}
-use Rattle.sights.specs.Below.{next-asks, later-hangs, later-less, later-hung, follows, own-less, mid-fits, own-sees, hang-asks, hung, hung-none}
+use Rattle.sights.specs.Below.{next-asks, later-hangs, later-less, later-hung, follows, mid-fits, own-sees, hang-asks, hung, hung-none}
 use Rattle.sights.specs.AtRow.{row-asks, row-hangs, row-less, row-site-asks, seen_by}
 use Rattle.sights.proofs.+below_beside_seen.Goals as goal
 

@@ -1,6 +1,6 @@
 -- `sites::put_choices` meets its contract. Assumes nothing.
 use mathlib.Core.Path.{◌≡◌}
-use Prim.Native.Nat.{◌+◌, ◌-◌}
+use Prim.Native.Nat.{◌+◌}
 use native.Mathlib.Omega.{arith}
 use Rattle.sites.specs.Sites.{chosens-start, chosens-stand, chosens-step}
 use Rattle.sites.specs.Types.{types-fewer}

@@ -1,5 +1,4 @@
 -- `sites::put_types` meets its contract. Assumes nothing.
-use Prim.Native.Nat.{◌-◌}
 use native.Mathlib.Omega.{arith}
 use Rattle.rules.specs.Quantities.{work_room}
 use Rattle.sites.specs.Sites.{typing-start, typing-step, typing-end}

@@ -1,6 +1,5 @@
 -- `text::digits_of` meets its contract. The loop's invariant: the digits passed and those to come state the part's number, capped.
 -- Assumes nothing.
-use Prim.Native.Nat.{◌-◌}
 use mathlib.Core.Path.{refl, sym, ◌∙◌}
 use native.Mathlib.Omega.{arith}
 use lib.ListN.{get_or}

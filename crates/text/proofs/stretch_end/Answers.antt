@@ -1,6 +1,5 @@
 -- `text::stretch_end` meets its contract. The loop's invariant: from `i` on the stretch ends where it ends from the start on.
 -- Assumes nothing.
-use Prim.Native.Nat.{◌-◌}
 use native.Mathlib.Omega.{arith}
 use Rattle.text.specs.Stretches.{lead-end, lead-here, lead-there}
 use Rattle.text.proofs.stretch_end.Goals as goal

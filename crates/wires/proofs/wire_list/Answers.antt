@@ -1,5 +1,5 @@
 -- `wires::wire_list` meets its contract. Assumes nothing.
-use Prim.Native.Nat.{◌+◌, ◌-◌}
+use Prim.Native.Nat.{◌+◌}
 use native.Mathlib.Omega.{arith}
 use Rattle.laws.specs.Moves.{behind, wire_step}
 use Rattle.laws.specs.Lists.{all_head}

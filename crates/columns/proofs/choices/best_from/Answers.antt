@@ -1,5 +1,4 @@
 -- `columns::choices::best_from` meets its contract. Assumes nothing.
-use Prim.Native.Nat.{◌-◌}
 use native.Mathlib.Omega.{arith}
 use lib.Signed.{mag}
 use Rattle.columns.specs.Choosing.{delay_of, choosing-start, choosing-step, choosing-end}

@@ -1,5 +1,5 @@
 -- `columns::moves::move_down` meets its contract. Assumes nothing.
-use Prim.Native.Nat.{◌+◌, ◌-◌}
+use Prim.Native.Nat.{◌+◌}
 use native.Mathlib.Omega.{arith}
 use Rattle.columns.specs.Moving.{lowering-start, lowering-step, lowering-end}
 use Rattle.columns.specs.Made.{room-run}

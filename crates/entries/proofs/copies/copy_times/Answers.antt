@@ -1,5 +1,4 @@
 -- `entries::copies::copy_times` meets its contract. The loop's invariant: the first i are those of `from`, the others as they were. Assumes nothing.
-use Prim.Native.Nat.{◌-◌}
 use mathlib.Core.Path.{◌≡◌, refl}
 use native.Mathlib.Omega.{arith}
 use lib.IntN.{pos}

@@ -1,6 +1,6 @@
 -- `net::reads::read_lines` meets its contract. The loop's invariant: the lines before `at` have passed, and the areas hold them.
 -- Assumes nothing.
-use Prim.Native.Nat.{◌<◌, ◌-◌}
+use Prim.Native.Nat.{◌<◌}
 use mathlib.Core.Path.{refl, ◌∙◌}
 use native.Mathlib.Omega.{arith}
 use lib.ListN.{length, drop, length-drop}

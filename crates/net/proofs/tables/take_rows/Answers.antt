@@ -1,5 +1,5 @@
 -- `net::tables::take_rows` meets its contract. The loop's invariant: the rows before i have passed after the types. Assumes nothing.
-use Prim.Native.Nat.{◌-◌, min}
+use Prim.Native.Nat.{min}
 use mathlib.Core.Path.{◌≡◌, refl, ap, ◌∙◌}
 use native.Mathlib.Omega.{arith}
 use Rattle.rules.specs.Tables.{from, row_entry, tables_of}

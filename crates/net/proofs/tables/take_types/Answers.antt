@@ -1,5 +1,5 @@
 -- `net::tables::take_types` meets its contract. The loop's invariant: the types before i have passed. Assumes nothing.
-use Prim.Native.Nat.{◌-◌, min}
+use Prim.Native.Nat.{min}
 use mathlib.Core.Path.{◌≡◌, refl}
 use mathlib.Core.List.{[]}
 use native.Mathlib.Omega.{arith}

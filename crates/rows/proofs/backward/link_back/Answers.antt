@@ -1,7 +1,6 @@
 -- `rows::backward::link_back` meets its contract. The loop's invariant: the rows passed are linked. The measure is the rows left. Assumes
 -- nothing.
 use mathlib.Core.Path.{◌≡◌, sym, ◌∙◌}
-use Prim.Native.Nat.{◌-◌}
 use native.Mathlib.Omega.{arith}
 use lib.ListN.{get_or, length-set}
 use Rattle.laws.specs.Tabled.{rows_from, rows-length}

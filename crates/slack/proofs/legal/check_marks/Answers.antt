@@ -1,7 +1,6 @@
 -- `slack::legal::check_marks` meets its contract. The loop's invariant: the rows before i have passed, with the sites on them. The measure is
 -- what is left of the rows. Assumes nothing.
 use mathlib.Core.Path.{sym, ◌∙◌}
-use Prim.Native.Nat.{◌-◌}
 use native.Mathlib.Omega.{arith}
 use Rattle.slack.specs.Marked.{passed_start, passed-all, sites-room, site-inside, row-stop, row-pass}
 use Rattle.slack.proofs.legal.check_marks.Goals as goal

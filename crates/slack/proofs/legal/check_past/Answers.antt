@@ -1,6 +1,5 @@
 -- `slack::legal::check_past` meets its contract. The loop's invariant: the marks before j have passed. The measure is what is left of them.
 -- Assumes nothing.
-use Prim.Native.Nat.{◌-◌}
 use native.Mathlib.Omega.{arith}
 use Rattle.slack.specs.Marked.{past-start, past_stop, past-pass, past_end}
 use Rattle.slack.proofs.legal.check_past.Goals as goal

@@ -1,7 +1,7 @@
 -- `walks::steps::deepest` meets its contract. The loop's invariant: the row is on the way down, and c is the last below it. The measure is the
 -- rows after it. Assumes nothing.
 use mathlib.Core.Path.{refl, sym, ◌∙◌}
-use Prim.Native.Nat.{◌-◌, ◌<◌}
+use Prim.Native.Nat.{◌<◌}
 use native.Mathlib.Omega.{arith}
 use Rattle.walks.specs.Spine.{here, down}
 use Rattle.walks.proofs.steps.deepest.Goals as goal
