@@ -75,12 +75,9 @@ def main():
     words = {}
     for path, text in texts.items():
         spell = lambda w: respelled(w.group(), dashed)
-        if path.endswith(".antt"):
-            new = WORD.sub(spell, text)
-        else:
-            parts = STRING.split(text)
-            kept = STRING.findall(text) + [""]
-            new = "".join(WORD.sub(spell, part) + string for part, string in zip(parts, kept))
+        parts = STRING.split(text)
+        kept = STRING.findall(text) + [""]
+        new = "".join(WORD.sub(spell, part) + string for part, string in zip(parts, kept))
         for word in WORD.findall(text):
             words.setdefault(word, set()).add(path)
         if not check and new != text:

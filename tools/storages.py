@@ -1,6 +1,6 @@
 #!/usr/bin/env python3
 """Runs every case of the vectors program through the records: a copy of the repository in which the crate `asked` asks `plan_records` and
-`list_records`, with a run made from the same stamped areas, and `rt try vectors` there. The output that is stored is what the columns
+`list_records`, with a run made from the same stamped areas, and `rt try` there. The output that is stored is what the columns
 give, so where it is met both storages give the same answers, the same lists and placements, and leave their areas alike. The loads of a list
 alone are handed out of columns only: the copy asks `loads_at` as it stands.
 
@@ -87,15 +87,18 @@ def asked(text, start, end, call, lengths):
 
 with tempfile.TemporaryDirectory() as top:
     copy = os.path.join(top, "copy")
-    shutil.copytree(HERE, copy, ignore=shutil.ignore_patterns(".git", "build", "target"))
+    shutil.copytree(HERE, copy, ignore=shutil.ignore_patterns(".git", "build", "target", "out"))
     source = os.path.join(copy, "crates/asked/src")
     edit(os.path.join(source, "work.rt"), work)
     edit(os.path.join(source, "planning.rt"), lambda t: asked(t, "    let answer = plan::plan_net(", "    Planned {", PLAN, "bcd"))
     edit(os.path.join(source, "listing.rt"), lambda t: asked(t, "    let answer = plan::list_at(", "    Listed {", LIST, "cde"))
     edit(os.path.join(copy, "crates.txt"), lambda t: t.replace("\nasked: ", "\nasked: runs records ", 1))
-    run = subprocess.run(["rt", "try", "vectors"], cwd=copy, stdout=subprocess.PIPE, stderr=subprocess.STDOUT, text=True)
-    # The interpreter's limit of steps is too low for the cases, on columns as well; the three compiled programs end.
-    if run.stdout.count("ok: the native program") != 3:
-        print(run.stdout, end="")
+    with open(os.path.join(HERE, "crates/vectors/stdin"), "rb") as cases:
+        run = subprocess.run(["rt", "try"], cwd=os.path.join(copy, "crates/vectors"), stdin=cases, stdout=subprocess.PIPE, stderr=subprocess.PIPE)
+    with open(os.path.join(HERE, "crates/vectors/stdout"), "rb") as stored:
+        same = run.stdout == stored.read()
+    # The interpreter's limit of steps is too low for the cases, on columns as well; the compiled program ends.
+    if run.returncode != 0 or not same:
+        sys.stdout.buffer.write(run.stderr)
         sys.exit("records and columns differ")
     print("records and columns write the same")

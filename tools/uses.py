@@ -7,8 +7,8 @@ import re
 import sys
 
 CRATES = os.path.join(os.path.dirname(__file__), "../crates/")
-# `use PATH.{a, b as c}` and `use PATH as c` in specs, proofs and, after `ghost`, in code; `use path::C` in code
-NAMES = re.compile(r"((?:ghost )?use [^{]*\.\{)(.*)(\};?)$")
+# `use PATH.{a, b as c}` and `use PATH as c` in specs, proofs and, after `ghost`, in code; `use path::{A, B}` and `use path::C` in code
+NAMES = re.compile(r"((?:ghost )?use [^{]*(?:\.|::)\{)(.*)(\};?)$")
 MODULE = re.compile(r"(?:ghost )?use \S+ as (\S+?);?$")
 ITEM = re.compile(r"use [\w:]+::(\w+);$")
 
@@ -23,7 +23,13 @@ def words_of(text):
 
 
 def used(text):
-    """the text with the names it uses in its `use` lines, and no others"""
+    """the text with the names it uses in its `use` lines, and no others; a `use` over several lines that loses one is on one line then"""
+    whole = re.sub(r"(?m)^use [^;{]*\{\n[^;]*\};$", lambda m: re.sub(r"\s*\n\s*", " ", m[0]).replace("{ ", "{").replace(", }", "}"), text)
+    left = used_in_lines(whole)
+    return text if left == whole else left
+
+
+def used_in_lines(text):
     lines = text.split("\n")
     comment = "//" if any(line.startswith("//") for line in lines) else "--"
     body = "\n".join(line.split(comment)[0] for line in lines if not re.match(r"(ghost |pub )?use ", line))
@@ -33,7 +39,7 @@ def used(text):
     def has(name):
         if name == "[]":
             return name in body
-        return name in words or "_" in name and all(part in words for part in name.split("_") if part)
+        return name in words or "◌" in name and all(part in words for part in name.split("◌") if part)
 
     kept = []
     for line in lines:
@@ -54,7 +60,7 @@ def main():
     check = sys.argv[1:] == ["--check"]
     files = sys.argv[1:]
     if check:
-        files = [f for kind in ("rt", "antt") for f in glob.glob(CRATES + "**/*." + kind, recursive=True)]
+        files = [f for kind in ("rt", "antt") for f in glob.glob(CRATES + "**/*." + kind, recursive=True) if "/out/" not in f]
     bad = 0
     for file in files:
         with open(file) as f:
