@@ -1,2 +1,2 @@
-// What is true of the examples is in specs/. No code stands here.
+// What is true of the examples is in specs/, and in proofs/ what rests on it. No code stands here.
 #![tactic(auto)]

@@ -1,2 +1,2 @@
-// What is true of the definitions in `rules` is in specs/. No code stands here.
+// What is true of the definitions in `rules` is in specs/, and in proofs/ where it rests on a definition that an edit turns. No code stands here.
 #![tactic(auto)]

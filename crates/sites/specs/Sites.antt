@@ -40,9 +40,9 @@ pub record Chosens (types : List ℕ) (w w' : List Candidate) (at n k base count
 pub chosens-start : (types : List ℕ) (w : List Candidate) (at n k base : ℕ) → Chosens types w w at n k base 0
 chosens-start types w at n k base = record { before = refl; made = λ j h. absurd (omega arith) }
 
-module _ (types : List ℕ) (w₀ w : List Candidate) (at n k base t : ℕ) (in_List : at + n ≤ base) (C : Chosens types w₀ w at n k base t) where
+module _ (types : List ℕ) (w₀ w : List Candidate) (at n k base t : ℕ) (in_list : at + n ≤ base) (C : Chosens types w₀ w at n k base t) where
   still : part at (at + n) w ≡ part at (at + n) w₀
-  still = part-part at (at + n) w₀ w (part-less (at + n) base w₀ w in_List C.before)
+  still = part-part at (at + n) w₀ w (part-less (at + n) base w₀ w in_list C.before)
 
   pub chosens-stand : Stand w₀ at n → Stand w at n
   chosens-stand s = record { some = s.some; place = s.place; fit = rw still s.fit }
