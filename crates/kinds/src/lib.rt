@@ -11,6 +11,7 @@ use rooms::words::{DRIVER, POINT};
 use rules::{Femtofarad, Femtosecond, Kind, Pin};
 
 // Neither a driver's nor a plain point's number is a sink's.
+#[tactic(auto, unfolding(laws::specs::Tabled::kind_of))]
 pub fn kind_of(kind: u32, pin: u32, due: i64) -> Kind
     ensures { result ≡ kind_of kind pin due }
 {

@@ -78,6 +78,7 @@ pub fn is_below(load: Femtofarad, time: Femtosecond, other: Femtofarad, later: F
 }
 
 // Whether the first pair's load is no greater and its time no less.
+#[tactic(auto, unfolding(crate::specs::Stands::is_covering))]
 pub fn is_covering(
     load: Femtofarad,
     time: Femtosecond,

@@ -100,6 +100,7 @@ fn digits_of(part: &[u8], next: usize) -> Field
 }
 
 // The number that a part states: decimal, without leading zeros or sign.
+#[tactic(auto, using(crate::proofs::Numbers::leading))]
 pub fn number_of(part: &[u8], next: usize) -> Field
     ensures { result ≡ field_of (number part.now) next }
 {

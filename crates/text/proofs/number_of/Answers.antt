@@ -1,6 +1,6 @@
 -- `text::number_of` meets its contract: the first byte says which law of the definition applies. Assumes nothing.
 use native.Mathlib.Omega.{arith}
-use Rattle.text.specs.Numbers.{number-empty, number-single, number-zeros, number_digits}
+use Rattle.text.specs.Numbers.{number-empty, number-single, number_digits}
 use Rattle.text.proofs.number_of.Goals as goal
 
 pub returns-then-part-eq0 : goal.returns-then-part-eq0
@@ -14,9 +14,6 @@ returns-then-part-eq1 c = rw (number-single c.args.part.now c.if-part-eq1.true) 
 
 pub bounds-part-0 : goal.bounds-part-0
 bounds-part-0 c = omega arith
-
-pub returns-then-part-eq-ZERO : goal.returns-then-part-eq-ZERO
-returns-then-part-eq-ZERO c = rw (number-zeros c.args.part.now (omega arith) c.if-part-eq-ZERO.true)
 
 pub digits_of-requires-2 : goal.digits_of-requires-2
 digits_of-requires-2 c = tt
