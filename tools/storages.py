@@ -14,57 +14,37 @@ import tempfile
 
 HERE = os.path.dirname(os.path.dirname(os.path.abspath(__file__)))
 
-HELPERS = """
-pub fn pack(run: &mut [Cand], loads: &[u32], times: &[i64], words: &[u64]) {
-    let mut i = 0;
-    while i < run.len() {
+# The records that the columns lent to an entry make, as many as the shortest column holds: asked, and the columns as it leaves them.
+BY_RECORDS = """
+pub fn by_records<T, F>(loads: &mut [u32], times: &mut [i64], words: &mut [u64], entry: F) -> Result<T, Refusal>
+where
+    F: FnOnce(&mut [Cand]) -> Result<T, Refusal>,
+{
+    let none = Cand { load: Femtofarad(0), time: Femtosecond(0), words: [0; 4] };
+    let mut run = [none; 775];
+    let long = loads.len().min(times.len()).min(words.len() / 4);
+    for i in 0..long {
         let k = 4 * i;
         run[i] = Cand {
             load: Femtofarad(loads[i]),
             time: Femtosecond(times[i]),
             words: [words[k], words[k + 1], words[k + 2], words[k + 3]],
         };
-        i += 1;
     }
-}
-
-pub fn unpack(run: &[Cand], loads: &mut [u32], times: &mut [i64], words: &mut [u64]) {
-    let mut i = 0;
-    while i < run.len() {
-        let x = run[i];
-        let v = x.words;
-        loads[i] = x.load.0;
-        times[i] = x.time.0;
-        let mut k = 0;
-        while k < 4 {
-            words[4 * i + k] = v[k];
-            k += 1;
-        }
-        i += 1;
+    let answer = entry(&mut run[..long]);
+    for i in 0..long {
+        let Cand { load, time, words: marks } = run[i];
+        loads[i] = load.0;
+        times[i] = time.0;
+        words[4 * i..4 * i + 4].copy_from_slice(&marks);
     }
-}
-
-pub fn blank() -> Cand {
-    Cand { load: Femtofarad(0), time: Femtosecond(0), words: [0; 4] }
+    answer
 }
 """
 
-# The program's own areas hold 775 records; the shortest column says how many are lent.
-ASKED = """    let none = work::blank();
-    let mut run = [none; 775];
-    work::pack(&mut run, &loads, &times, &words);
-    let answer = {call}, &mut run[..stamps::least(stamps::least({loads}, {times}), {words} / 4)]);
-    work::unpack(&run, &mut loads, &mut times, &mut words);
-"""
-
-PLAN = "records::plan_records(types, rows, due, type_count, row_count, placement"
-LIST = "records::listing::list_records(types, rows, due, type_count, row_count, n[0] as usize, list_loads, list_times"
-
-
-def between(text, start, end, new):
-    """text with what stands from start up to end replaced; each has to occur"""
-    i = text.index(start)
-    return text[:i] + new + text[text.index(end, i):]
+WORK = "loads, times, words"
+PLAN = "plan::plan_net(net, part, ", "records::plan_records(net, part, run)"
+LIST = "plan::list_at(net, row, load_part, time_part, ", "records::listing::list_records(net, row, load_part, time_part, run)"
 
 
 def edit(path, change):
@@ -75,14 +55,15 @@ def edit(path, change):
 
 
 def work(text):
-    uses = "use lending::stamps;\nuse rules::Cand;\nuse rules::Femtofarad;\nuse rules::Femtosecond;\n"
-    return text.replace("use lending::stamps;\n", uses, 1) + HELPERS
+    assert "use rules::Refusal;\n" in text
+    return text.replace("use rules::Refusal;\n", "use rules::{Cand, Femtofarad, Femtosecond, Refusal};\n", 1) + BY_RECORDS
 
 
-def asked(text, start, end, call, lengths):
-    """text whose `on_work` asks on a run made of the columns"""
-    loads, times, words = lengths
-    return between(text, start, end, ASKED.format(call=call, loads=loads, times=times, words=words))
+def asked(text, columns, records):
+    """text whose entry on columns is asked on the records that they make"""
+    call = f"{columns}{WORK})"
+    assert text.count(call) == 1, call
+    return text.replace(call, f"work::by_records({WORK}, |run| {records})")
 
 
 with tempfile.TemporaryDirectory() as top:
@@ -90,8 +71,8 @@ with tempfile.TemporaryDirectory() as top:
     shutil.copytree(HERE, copy, ignore=shutil.ignore_patterns(".git", "build", "target", "out"))
     source = os.path.join(copy, "crates/asked/src")
     edit(os.path.join(source, "work.rt"), work)
-    edit(os.path.join(source, "planning.rt"), lambda t: asked(t, "    let answer = plan::plan_net(", "    Planned {", PLAN, "bcd"))
-    edit(os.path.join(source, "listing.rt"), lambda t: asked(t, "    let answer = plan::list_at(", "    Listed {", LIST, "cde"))
+    edit(os.path.join(source, "planning.rt"), lambda t: asked(t, *PLAN))
+    edit(os.path.join(source, "listing.rt"), lambda t: asked(t, *LIST))
     edit(os.path.join(copy, "crates.txt"), lambda t: t.replace("\nasked: ", "\nasked: runs records ", 1))
     with open(os.path.join(HERE, "crates/vectors/stdin"), "rb") as cases:
         run = subprocess.run(["rt", "try"], cwd=os.path.join(copy, "crates/vectors"), stdin=cases, stdout=subprocess.PIPE, stderr=subprocess.PIPE)

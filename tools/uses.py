@@ -14,11 +14,11 @@ ITEM = re.compile(r"use [\w:]+::(\w+);$")
 
 
 def words_of(text):
-    """the words of a text: a field (`.left`) is none, and of `a.b` the first part is one"""
+    """the words of a text: a field (`.left`) is none, and of `a.b` the first part is one, of `Net<'_>` and `a..b` each"""
     words = set()
-    for word in re.split(r"[\s(){}\[\],;`⌜⌝«»]+", text):
+    for word in re.split(r"(?:\.\.|[\s(){}\[\],;`⌜⌝«»])+", text):
         word = word.split(".")[0]
-        words.update([word], re.split(r"[:&!?]+", word))
+        words.update([word], re.split(r"[:&!?<>]+", word))
     return words
 
 

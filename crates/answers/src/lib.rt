@@ -9,7 +9,7 @@ ghost use Rattle.rules.specs.Answers.{read_figures, check_figures, slack_figures
 ghost use Rattle.rules.specs.Calls.{answer_room, count_words, no_words, timing_words, length_words, Crossed};
 
 use rooms::ANSWER_ROOM;
-use rules::{Checking, Listing, Planning, Reading, Refusal, Slacking};
+use rules::{Counted, Refusal, Timed};
 
 // How many words the area of an answer has at least.
 pub fn room() -> usize
@@ -23,13 +23,6 @@ pub fn short() -> u32
     ensures { result ≡ number_of Refusal.Short }
 {
     refusals::number_of(Refusal::Short)
-}
-
-// A number as a word of the answer.
-fn word(x: u32) -> i64
-    ensures { result ≡ pos x }
-{
-    x as i64
 }
 
 fn put(answer: &mut [i64], place: i64, first: i64, second: i64)
@@ -53,56 +46,49 @@ pub fn tell_refusal(answer: &mut [i64], r: Refusal) -> u32
     requires { answer_room ≤ length answer.old }
     ensures { (result ≡ number_of r) × (answer.new ≡ written (pos (place_of r) ∷ pos 0 ∷ pos 0 ∷ []) answer.old) }
 {
-    put(answer, word(refusals::place_of(r)), 0, 0);
+    put(answer, i64::from(refusals::place_of(r)), 0, 0);
     refusals::number_of(r)
 }
 
-pub fn tell_reading(answer: &mut [i64], a: Reading) -> u32
+// A match for each answer: they differ in the two words that they tell, and a closure for those would be no shorter.
+pub fn tell_reading(answer: &mut [i64], a: Result<Counted, Refusal>) -> u32
     requires { answer_room ≤ length answer.old }
     ensures { Crossed count_words (read_figures a) answer.old answer.new result }
 {
     match a {
-        Reading::Read { types, rows } => tell(answer, word(types), word(rows)),
-        Reading::Refused(r) => tell_refusal(answer, r),
+        Ok(n) => tell(answer, i64::from(n.types), i64::from(n.rows)),
+        Err(r) => tell_refusal(answer, r),
     }
 }
 
-pub fn tell_checking(answer: &mut [i64], a: Checking) -> u32
+pub fn tell_checking(answer: &mut [i64], a: Result<(), Refusal>) -> u32
     requires { answer_room ≤ length answer.old }
     ensures { Crossed no_words (check_figures a) answer.old answer.new result }
 {
     match a {
-        Checking::Accepted => tell(answer, 0, 0),
-        Checking::Refused(r) => tell_refusal(answer, r),
+        Ok(()) => tell(answer, 0, 0),
+        Err(r) => tell_refusal(answer, r),
     }
 }
 
-pub fn tell_slacking(answer: &mut [i64], a: Slacking) -> u32
+// Of a placement that is given, and of one that is planned.
+pub fn tell_timing(answer: &mut [i64], a: Result<Timed, Refusal>) -> u32
     requires { answer_room ≤ length answer.old }
-    ensures { Crossed timing_words (slack_figures a) answer.old answer.new result }
+    ensures given { Crossed timing_words (slack_figures a) answer.old answer.new result }
+    ensures planned { Crossed timing_words (plan_figures a) answer.old answer.new result }
 {
     match a {
-        Slacking::Slack { slack, load } => tell(answer, slack.0, word(load.0)),
-        Slacking::Refused(r) => tell_refusal(answer, r),
+        Ok(t) => tell(answer, t.slack.0, i64::from(t.load.0)),
+        Err(r) => tell_refusal(answer, r),
     }
 }
 
-pub fn tell_planning(answer: &mut [i64], a: Planning) -> u32
-    requires { answer_room ≤ length answer.old }
-    ensures { Crossed timing_words (plan_figures a) answer.old answer.new result }
-{
-    match a {
-        Planning::Planned { slack, load } => tell(answer, slack.0, word(load.0)),
-        Planning::Refused(r) => tell_refusal(answer, r),
-    }
-}
-
-pub fn tell_listing(answer: &mut [i64], a: Listing) -> u32
+pub fn tell_listing(answer: &mut [i64], a: Result<u32, Refusal>) -> u32
     requires { answer_room ≤ length answer.old }
     ensures { Crossed length_words (list_figures a) answer.old answer.new result }
 {
     match a {
-        Listing::Listed { length } => tell(answer, word(length), 0),
-        Listing::Refused(r) => tell_refusal(answer, r),
+        Ok(length) => tell(answer, i64::from(length), 0),
+        Err(r) => tell_refusal(answer, r),
     }
 }

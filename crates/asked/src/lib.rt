@@ -5,4 +5,4 @@
 pub mod listing;
 pub mod planning;
 pub mod tables;
-pub mod work;
+mod work;

@@ -1,173 +1,67 @@
 // list_at and loads_at asked.
 use crate::work;
 use lending::stamps;
-use rules::Listing;
-use work::{Left, WORDS, WORK};
+use lending::work::{Left, Lent};
+use rules::{Net, Refusal};
 
-// What it gave, and what it left.
-#[derive(Clone, Copy)]
+// Places of a list's areas: more than its room.
+pub const LIST: usize = 300;
+
+// What list_at gave, and what it left: the length, and the areas of the list.
+#[derive(Drop)]
 pub struct Listed {
-    pub answer: Listing,
+    pub answer: Result<u32, Refusal>,
+    pub loads: [u32; LIST],
+    pub times: [i64; LIST],
     pub left: Left,
 }
 
-fn is_refused(answer: Listing) -> bool {
-    match answer {
-        Listing::Refused(_) => true,
-        Listing::Listed { length: _ } => false,
-    }
+// The same of loads_at.
+#[derive(Drop)]
+pub struct Loaded {
+    pub answer: Result<u32, Refusal>,
+    pub loads: [u32; LIST],
+    pub left: Left,
 }
 
-fn length_of(answer: Listing) -> usize {
-    match answer {
-        Listing::Refused(_) => 0,
-        Listing::Listed { length } => length as usize,
-    }
+// How many places of the list's areas an answer fills.
+fn filled(answer: Result<u32, Refusal>) -> usize {
+    answer.map_or(0, |length| length as usize)
 }
 
-// On a work area of its own, lent at the lengths asked for, and what was left of that.
-fn on_work(
-    types: &[u32],
-    rows: &[u32],
-    due: &[i64],
-    type_count: usize,
-    row_count: usize,
-    n: &[u64; 6],
-    list_loads: &mut [u32],
-    list_times: &mut [i64],
-) -> Listed {
-    let c = stamps::least(n[3] as usize, WORK);
-    let d = stamps::least(n[4] as usize, WORK);
-    let e = stamps::least(n[5] as usize, WORDS);
-    let mut loads = [0u32; WORK];
-    let mut times = [0i64; WORK];
-    let mut words = [0u64; WORDS];
-    work::stamp(&mut loads, &mut times, &mut words);
-    let answer = plan::list_at(
-        types,
-        rows,
-        due,
-        type_count,
-        row_count,
-        n[0] as usize,
-        list_loads,
-        list_times,
-        &mut loads[..c],
-        &mut times[..d],
-        &mut words[..e],
-    );
+// The list at a row: its loads and times lent at these lengths, and the work area.
+pub fn list(net: &Net<'_>, row: usize, list_loads: usize, list_times: usize, lent: Lent) -> Listed {
+    let mut loads = [0u32; LIST];
+    let mut times = [0i64; LIST];
+    stamps::stamp(&mut loads);
+    stamps::stamp(&mut times);
+    let load_part = &mut loads[..list_loads.min(LIST)];
+    let time_part = &mut times[..list_times.min(LIST)];
+    let (answer, left) = work::on_work(lent, |loads, times, words| {
+        plan::list_at(net, row, load_part, time_part, loads, times, words)
+    });
+    let from = filled(answer);
+    let kept = stamps::kept(&loads, from) && stamps::kept(&times, from);
     Listed {
         answer,
-        left: work::seen(&loads, &times, &words, is_refused(answer)),
+        loads,
+        times,
+        left: left.beside(kept),
     }
 }
 
-// With what was left of the list's areas.
-fn seen(listed: Listed, list_loads: &[u32], list_times: &[i64]) -> Listed {
-    let answer = listed.answer;
-    let long = length_of(answer);
-    Listed {
+// The loads of the list at a row: lent at this length, and the work area.
+pub fn loads_alone(net: &Net<'_>, row: usize, list_loads: usize, lent: Lent) -> Loaded {
+    let mut loads = [0u32; LIST];
+    stamps::stamp(&mut loads);
+    let load_part = &mut loads[..list_loads.min(LIST)];
+    let (answer, left) = work::on_work(lent, |loads, times, words| {
+        plan::loads_at(net, row, load_part, loads, times, words)
+    });
+    let kept = stamps::kept(&loads, filled(answer));
+    Loaded {
         answer,
-        left: work::beside(
-            listed.left,
-            stamps::pairs_kept(list_loads, list_times, long, long),
-        ),
+        loads,
+        left: left.beside(kept),
     }
-}
-
-// n: the row, and the lengths of the list's loads and times and of the work's loads, times and words.
-pub fn list(
-    types: &[u32],
-    rows: &[u32],
-    due: &[i64],
-    type_count: usize,
-    row_count: usize,
-    n: &[u64; 6],
-    list_loads: &mut [u32],
-    list_times: &mut [i64],
-) -> Listed {
-    stamps::set_words(list_loads, true);
-    stamps::set_times(list_times, true);
-    let a = stamps::least(n[1] as usize, list_loads.len());
-    let b = stamps::least(n[2] as usize, list_times.len());
-    let listed = on_work(
-        types,
-        rows,
-        due,
-        type_count,
-        row_count,
-        n,
-        &mut list_loads[..a],
-        &mut list_times[..b],
-    );
-    seen(listed, list_loads, list_times)
-}
-
-// loads_at on a work area of its own, lent at the lengths asked for, and what was left of that.
-fn loads_on_work(
-    types: &[u32],
-    rows: &[u32],
-    due: &[i64],
-    type_count: usize,
-    row_count: usize,
-    n: &[u64; 6],
-    list_loads: &mut [u32],
-) -> Listed {
-    let b = stamps::least(n[2] as usize, WORK);
-    let c = stamps::least(n[3] as usize, WORK);
-    let d = stamps::least(n[4] as usize, WORDS);
-    let mut loads = [0u32; WORK];
-    let mut times = [0i64; WORK];
-    let mut words = [0u64; WORDS];
-    work::stamp(&mut loads, &mut times, &mut words);
-    let answer = plan::loads_at(
-        types,
-        rows,
-        due,
-        type_count,
-        row_count,
-        n[0] as usize,
-        list_loads,
-        &mut loads[..b],
-        &mut times[..c],
-        &mut words[..d],
-    );
-    Listed {
-        answer,
-        left: work::seen(&loads, &times, &words, is_refused(answer)),
-    }
-}
-
-// With what was left of the list's loads.
-fn loads_seen(listed: Listed, list_loads: &[u32]) -> Listed {
-    let answer = listed.answer;
-    let long = length_of(answer);
-    Listed {
-        answer,
-        left: work::beside(listed.left, stamps::words_kept(list_loads, long)),
-    }
-}
-
-// n: the row, and the lengths of the list's loads and of the work's loads, times and words.
-pub fn loads_alone(
-    types: &[u32],
-    rows: &[u32],
-    due: &[i64],
-    type_count: usize,
-    row_count: usize,
-    n: &[u64; 6],
-    list_loads: &mut [u32],
-) -> Listed {
-    stamps::set_words(list_loads, true);
-    let a = stamps::least(n[1] as usize, list_loads.len());
-    let listed = loads_on_work(
-        types,
-        rows,
-        due,
-        type_count,
-        row_count,
-        n,
-        &mut list_loads[..a],
-    );
-    loads_seen(listed, list_loads)
 }

@@ -14,7 +14,6 @@ ghost use Rattle.columns.specs.Made.{Fit, Room, Gives};
 ghost use Rattle.branches.specs.Branching.{Pair, Merged};
 
 use columns::{cells, moves, placements};
-use rules::{Femtofarad, Femtosecond};
 
 // A turn: two candidates joined, their load and time put at the start of what is unused of the columns.
 fn join_turn(x: pairs::Pair, y: pairs::Pair, loads: &mut [u32], times: &mut [i64])
@@ -23,13 +22,9 @@ fn join_turn(x: pairs::Pair, y: pairs::Pair, loads: &mut [u32], times: &mut [i64
     ensures loads { loads.new ≡ set loads.old 0 (x.load.0 + y.load.0) }
     ensures times { times.new ≡ set times.old 0 (minℤ x.time.0 y.time.0) }
 {
-    let pair = pairs::joined(x.load, x.time, y.load, y.time);
-    let load = pair.load;
-    let time = pair.time;
-    let shown = load.0;
-    let least = time.0;
-    loads[0] = shown;
-    times[0] = least;
+    let pair = x.joined(y);
+    loads[0] = pair.load.0;
+    times[0] = pair.time.0;
 }
 
 // The candidates at i and j joined, put at o, the first unused place: the turn is lent the loads and times from there on, and the
@@ -40,14 +35,8 @@ fn turn_at(loads: &mut [u32], times: &mut [i64], words: &mut [u64], i: usize, j:
     requires fit { Fit (joined join_marks (get_or (run loads.old times.old words.old) i blank) (get_or (run loads.old times.old words.old) j blank)) }
     ensures { run loads.new times.new words.new ≡ set (run loads.old times.old words.old) o (joined join_marks (get_or (run loads.old times.old words.old) i blank) (get_or (run loads.old times.old words.old) j blank)) }
 {
-    let x = pairs::Pair {
-        load: Femtofarad(loads[i]),
-        time: Femtosecond(times[i]),
-    };
-    let y = pairs::Pair {
-        load: Femtofarad(loads[j]),
-        time: Femtosecond(times[j]),
-    };
+    let x = cells::pair_at(loads, times, i);
+    let y = cells::pair_at(loads, times, j);
     join_turn(x, y, &mut loads[o..], &mut times[o..]);
     placements::join_words(words, i, j, o);
 }
@@ -70,6 +59,7 @@ pub fn merge_lists(
     let mut i = mid;
     let mut j = at;
     let mut o = end;
+    // Which index goes on hangs on the two times, so no range is walked.
     while i < end && j < mid {
         turn_at(loads, times, words, i, j, o);
         let first = 1 - cells::later_at(times, i, j);

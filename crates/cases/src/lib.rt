@@ -2,10 +2,7 @@
 // the program.
 #![tactic(auto)]
 
-pub mod lines;
 pub mod numbers;
-pub mod places;
 pub mod requests;
-pub mod setting;
-pub mod tables;
-pub mod words;
+pub mod setup;
+pub mod texts;

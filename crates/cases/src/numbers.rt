@@ -1,119 +1,82 @@
 // Numbers of a case: decimal, each ended by one byte, which is left to the reader of the line.
+ghost use Rattle.std.specs.Prelude.{◌+◌, ◌*◌, ◌^◌, ◌<◌, ◌≤◌, ◌-ℤ◌, pos, length, SomeIff, IfSome};
 
-const ZERO: u8 = b'0';
+use std::str;
 
-const NINE: u8 = b'9';
-
-const MINUS: u8 = b'-';
-
-// The greatest number that takes one digit more without passing 64 bits, but for the last digit.
-const MOST_TENTH: u64 = 1_844_674_407_370_955_161;
-
-const MOST: u64 = 18_446_744_073_709_551_615;
-
-const MOST_TIME: u64 = 9_223_372_036_854_775_807;
-
-// A number, with the place after it.
-#[derive(Clone, Copy)]
-pub enum Number {
-    At(u64, usize),
-    Bad,
+// The number that a text begins with, and what follows it: it has a digit, and fits 64 bits.
+pub fn number(s: &[u8]) -> Option<(u64, &[u8])>
+    ensures { IfSome result (λ r. length r.1.now < length s.now) }
+{
+    let long = s
+        .iter()
+        .position(|b| !b.is_ascii_digit())
+        .unwrap_or(s.len());
+    let (digits, rest) = s.split_at(long);
+    let n = str::from_utf8(digits).ok()?.parse::<u64>().ok()?;
+    Some((n, rest))
 }
 
-// A signed number, with the place after it.
-#[derive(Clone, Copy)]
-pub enum Time {
-    At(i64, usize),
-    Bad,
+// The number so far below zero, where it fits.
+fn below_zero(n: u64) -> Option<i64>
+    ensures { SomeIff result (n ≤ 2 ^ 63) (pos 0 -ℤ pos n) }
+{
+    0i64.checked_sub_unsigned(n)
 }
 
-#[derive(Clone, Copy)]
-enum Digit {
-    Is(u64),
-    Not,
+// With a sign where it is below zero: zero has none.
+fn time(s: &[u8]) -> Option<(i64, &[u8])>
+    ensures { IfSome result (λ r. length r.1.now < length s.now) }
+{
+    let Some(below) = s.strip_prefix(b"-") else {
+        let (n, rest) = number(s)?;
+        return Some((i64::try_from(n).ok()?, rest));
+    };
+    let (n, rest) = number(below)?;
+    if n == 0 {
+        return None;
+    }
+    Some((below_zero(n)?, rest))
 }
 
-fn digit_of(b: u8) -> Digit {
-    if b < ZERO {
-        return Digit::Not;
-    }
-    if NINE < b {
-        return Digit::Not;
-    }
-    Digit::Is((b - ZERO) as u64)
+// What stands in a table: a word of types or rows, or a time.
+pub trait Entry: Sized {
+    // The number that a text begins with, and what follows it.
+    fn read(s: &[u8]) -> Option<(Self, &[u8])>
+        ensures { IfSome result (λ r. length r.1.now < length s.now) };
 }
 
-// With one digit more, where that still fits 64 bits.
-fn grown(n: u64, d: u64, next: usize) -> Number {
-    if MOST_TENTH < n {
-        return Number::Bad;
-    }
-    let tens = 10 * n;
-    if MOST - tens < d {
-        return Number::Bad;
-    }
-    Number::At(tens + d, next)
-}
-
-// The digits from a place on, after those already read.
-fn rest(s: &[u8], first: u64, from: usize) -> Number {
-    let mut n = first;
-    let mut i = from;
-    while i < s.len() {
-        match digit_of(s[i]) {
-            Digit::Not => return Number::At(n, i),
-            Digit::Is(d) => match grown(n, d, i) {
-                Number::At(m, _) => n = m,
-                Number::Bad => return Number::Bad,
-            },
-        }
-        i += 1;
-    }
-    Number::At(n, i)
-}
-
-// A number has a first digit.
-pub fn number_at(s: &[u8], from: usize) -> Number {
-    if s.len() <= from {
-        return Number::Bad;
-    }
-    match digit_of(s[from]) {
-        Digit::Is(d) => rest(s, d, from + 1),
-        Digit::Not => Number::Bad,
+impl Entry for u32 {
+    fn read(s: &[u8]) -> Option<(u32, &[u8])> {
+        let (n, rest) = number(s)?;
+        Some((u32::try_from(n).ok()?, rest))
     }
 }
 
-// The sum is taken on the way down: the least time has no positive counterpart.
-fn negative(m: u64, next: usize) -> Time {
-    if m == 0 {
-        return Time::Bad;
+impl Entry for i64 {
+    fn read(s: &[u8]) -> Option<(i64, &[u8])> {
+        time(s)
     }
-    if MOST_TIME < m - 1 {
-        return Time::Bad;
-    }
-    let less = (m - 1) as i64;
-    Time::At(-1 - less, next)
 }
 
-fn positive(m: u64, next: usize) -> Time {
-    if MOST_TIME < m {
-        return Time::Bad;
+// The first `count` places of an area are the numbers that a text begins with, each ended by one byte; the others are zero. What follows.
+pub fn fill<'a, T: Entry + Copy + From<u16>>(
+    s: &'a [u8],
+    area: &mut [T],
+    count: usize,
+) -> Option<&'a [u8]>
+    ensures { IfSome result (λ rest. length rest.now + 2 * count ≤ length s.now) }
+{
+    let (first, others) = area.split_at_mut_checked(count)?;
+    // The bounds do not say that a clone of a T cannot fail, which `fill` asks.
+    for x in others {
+        *x = T::from(0);
     }
-    Time::At(m as i64, next)
-}
-
-pub fn time_at(s: &[u8], from: usize) -> Time {
-    if s.len() <= from {
-        return Time::Bad;
+    let mut rest = s;
+    for x in first {
+        let (n, after) = T::read(rest)?;
+        let (_, next) = after.split_first()?;
+        *x = n;
+        rest = next;
     }
-    if s[from] == MINUS {
-        return match number_at(s, from + 1) {
-            Number::At(m, next) => negative(m, next),
-            Number::Bad => Time::Bad,
-        };
-    }
-    match number_at(s, from) {
-        Number::At(m, next) => positive(m, next),
-        Number::Bad => Time::Bad,
-    }
+    Some(rest)
 }

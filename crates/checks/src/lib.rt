@@ -2,7 +2,7 @@
 #![tactic(auto)]
 
 use repeaters::Buffer;
-use rules::{Femtofarad, Ohm, Pin, Refusal};
+use rules::{Femtofarad, Ohm, Pin};
 
 pub mod lines;
 pub mod ranges;
@@ -16,14 +16,13 @@ pub struct Wire {
     pub site: u32,
 }
 
-// What a line states, or the refusal of its form.
+// What a line states.
 #[derive(Clone, Copy)]
 pub enum Line {
     Repeater(Buffer),
     Driver(Ohm),
     Point(Wire),
     Sink(Wire, Pin),
-    Refused(Refusal),
 }
 
 // How many types, rows and sites have passed.

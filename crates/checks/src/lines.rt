@@ -1,5 +1,5 @@
 // The checks of one line after those that have passed, shared by texts and tables: in one line 1, 2, 3, 4.
-ghost use Rattle.std.specs.Prelude.{◌≡◌, false, ◌+◌, ◌*◌, ◌≤◌, ◌<◌, ltb, leb, eqb, length};
+ghost use Rattle.std.specs.Prelude.{◌≡◌, false, ◌+◌, ◌*◌, ◌≤◌, ◌<◌, ltb, leb, eqb, length, Ok};
 ghost use Rattle.rules.specs.Tables.{words_a_row};
 ghost use Rattle.rules.specs.Quantities.{most_ohms, rows_room, types_room};
 ghost use Rattle.checks.specs.Checks.{checking, first_of, type_out, many_rows, no_parent_in, place_at, check_of, FewPassed};
@@ -10,7 +10,7 @@ use repeaters::Buffer;
 use rooms::ranges::MOST_OHMS;
 use rooms::words::SINK;
 use rooms::{ROW_WORDS, ROWS_ROOM, SITES_ROOM, TYPES_ROOM};
-use rules::{Checking, Ohm, Refusal};
+use rules::{Ohm, Refusal};
 
 // The number of the line after those that have passed.
 pub fn place_of(n: Passed) -> u32
@@ -20,36 +20,28 @@ pub fn place_of(n: Passed) -> u32
     (n.types + n.rows + 1) as u32
 }
 
-fn first_of(form: bool, range: bool, room: bool, parent: bool, place: u32) -> Checking
+fn first_of(form: bool, range: bool, room: bool, parent: bool, place: u32) -> Result<(), Refusal>
     ensures { result ≡ checking (first_of form range room parent place) }
 {
     if form {
-        return Checking::Refused(Refusal::Form(place));
+        return Err(Refusal::Form(place));
     }
     if range {
-        return Checking::Refused(Refusal::Range(place));
+        return Err(Refusal::Range(place));
     }
     if room {
-        return Checking::Refused(Refusal::Room(place));
+        return Err(Refusal::Room(place));
     }
     if parent {
-        return Checking::Refused(Refusal::Parent(place));
+        return Err(Refusal::Parent(place));
     }
-    Checking::Accepted
+    Ok(())
 }
 
 fn many_rows(n: Passed, site: u32) -> bool
     ensures { result ≡ many_rows n site }
 {
-    let rows = n.rows;
-    if ROWS_ROOM <= rows {
-        return true;
-    }
-    if site == 1 {
-        let sites = n.sites;
-        return SITES_ROOM <= sites;
-    }
-    false
+    ROWS_ROOM <= n.rows || site == 1 && SITES_ROOM <= n.sites
 }
 
 fn no_parent(rows: &[u32], count: usize, parent: u32) -> bool
@@ -57,55 +49,48 @@ fn no_parent(rows: &[u32], count: usize, parent: u32) -> bool
     ensures { result ≡ no_parent_in rows.now count parent }
 {
     let above = parent as usize;
-    if count <= above {
-        return true;
-    }
-    rows[ROW_WORDS * above] == SINK
+    count <= above || rows[ROW_WORDS * above] == SINK
 }
 
-pub fn check_type(n: Passed, t: Buffer) -> Checking
+pub fn check_type(n: Passed, t: Buffer) -> Result<(), Refusal>
     requires { FewPassed n }
     ensures { result ≡ checking (first_of (ltb 0 n.rows) (type_out t) (leb types_room n.types) false (place_at n)) }
 {
-    let out = type_out(t);
-    let place = place_of(n);
-    let types = n.types;
-    let rows = n.rows;
-    first_of(0 < rows, out, TYPES_ROOM <= types, false, place)
+    first_of(
+        0 < n.rows,
+        type_out(t),
+        TYPES_ROOM <= n.types,
+        false,
+        place_of(n),
+    )
 }
 
-pub fn check_driver(n: Passed, o: Ohm) -> Checking
+pub fn check_driver(n: Passed, o: Ohm) -> Result<(), Refusal>
     requires { FewPassed n }
     ensures { result ≡ checking (first_of (ltb 0 n.rows) (ltb most_ohms o.0) false false (place_at n)) }
 {
-    let place = place_of(n);
-    let ohms = o.0;
-    let rows = n.rows;
-    first_of(0 < rows, MOST_OHMS < ohms, false, false, place)
+    first_of(0 < n.rows, MOST_OHMS < o.0, false, false, place_of(n))
 }
 
 // A row whose fields are out of range, or are not.
-pub fn check_row(rows: &[u32], n: Passed, w: Wire, out: bool) -> Checking
+pub fn check_row(rows: &[u32], n: Passed, w: Wire, out: bool) -> Result<(), Refusal>
     requires { FewPassed n × (words_a_row * n.rows ≤ length rows.now) }
     ensures { result ≡ checking (first_of (eqb n.rows 0) out (many_rows n w.site) (no_parent_in rows.now n.rows w.parent) (place_at n)) }
 {
     let many = many_rows(n, w.site);
-    let count = n.rows;
-    let orphan = no_parent(rows, count, w.parent);
-    let place = place_of(n);
-    first_of(count == 0, out, many, orphan, place)
+    let orphan = no_parent(rows, n.rows, w.parent);
+    first_of(n.rows == 0, out, many, orphan, place_of(n))
 }
 
 // The first of 1, 2, 3, 4 that a line is refused for, after those that have passed and whose rows stand in `rows`.
-pub fn check_line(rows: &[u32], n: Passed, line: Line) -> Checking
+pub fn check_line(rows: &[u32], n: Passed, line: Line) -> Result<(), Refusal>
     requires { FewPassed n × (words_a_row * n.rows ≤ length rows.now) }
-    ensures { result ≡ check_of rows.now n line }
+    ensures { result ≡ check_of rows.now n (Ok line) }
 {
     match line {
         Line::Repeater(t) => check_type(n, t),
         Line::Driver(o) => check_driver(n, o),
         Line::Point(w) => check_row(rows, n, w, wire_out(w)),
         Line::Sink(w, p) => check_row(rows, n, w, sink_out(w, p)),
-        Line::Refused(r) => Checking::Refused(r),
     }
 }

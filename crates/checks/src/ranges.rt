@@ -13,56 +13,26 @@ use rules::Pin;
 pub fn type_out(t: Buffer) -> bool
     ensures { result ≡ type_out t }
 {
-    let input = t.input.0;
-    if MOST_FEMTOFARADS < input {
-        return true;
-    }
-    let resistance = t.resistance.0;
-    if MOST_OHMS < resistance {
-        return true;
-    }
-    let own = t.own.0;
-    MOST_OWN < own
+    MOST_FEMTOFARADS < t.input.0 || MOST_OHMS < t.resistance.0 || MOST_OWN < t.own.0
 }
 
 pub fn wire_out(w: Wire) -> bool
     ensures { result ≡ wire_out w.parent w.resistance.0 w.capacitance.0 w.site }
 {
-    let parent = w.parent;
-    if MOST_PARENT < parent {
-        return true;
-    }
-    let resistance = w.resistance.0;
-    if MOST_OHMS < resistance {
-        return true;
-    }
-    let capacitance = w.capacitance.0;
-    if MOST_FEMTOFARADS < capacitance {
-        return true;
-    }
-    let site = w.site;
-    MOST_SITE < site
+    MOST_PARENT < w.parent
+        || MOST_OHMS < w.resistance.0
+        || MOST_FEMTOFARADS < w.capacitance.0
+        || MOST_SITE < w.site
 }
 
 fn pin_out(p: Pin) -> bool
     ensures { result ≡ pin_out p }
 {
-    let load = p.load.0;
-    if MOST_FEMTOFARADS < load {
-        return true;
-    }
-    let due = p.due.0;
-    if due < EARLIEST_DUE {
-        return true;
-    }
-    LATEST_DUE < due
+    MOST_FEMTOFARADS < p.load.0 || p.due.0 < EARLIEST_DUE || LATEST_DUE < p.due.0
 }
 
 pub fn sink_out(w: Wire, p: Pin) -> bool
     ensures { result ≡ (wire_out w.parent w.resistance.0 w.capacitance.0 w.site || pin_out p) }
 {
-    if wire_out(w) {
-        return true;
-    }
-    pin_out(p)
+    wire_out(w) || pin_out(p)
 }

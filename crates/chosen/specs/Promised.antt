@@ -1,13 +1,11 @@
 -- From what the planner made to what is promised: the placement chosen is planned, the list is the unbeaten pairs, and the work area is
 -- all zero. Assumes nothing.
-use Rattle.std.specs.Prelude.{◌≡◌, false, List, [], ◌∷◌, ◌++◌, map, ℕ, zero, suc, ◌+◌, ◌*◌, ◌≤◌, ◌<◌, ltb, ℤ, pos, length, get_or, take, drop, replicate}
+use Rattle.std.specs.Prelude.{◌≡◌, false, List, [], ◌∷◌, ◌++◌, map, ℕ, zero, suc, ◌+◌, ◌*◌, ◌≤◌, ◌<◌, ltb, ℤ, pos, length, get_or, take, drop, replicate, Ok}
 use Rattle.std.proofs.Math.Path.{refl, ap, subst}
 use Rattle.std.proofs.Common.{sym, ◌∙◌, append-nil, arith, mul-le-mul, drop_of_length-le, length-take-le}
 use Rattle.std.proofs.Math.Option.{some, or_else}
 use Rattle.std.proofs.lemmas.List.{length-map}
 use borrow.Author.Tests.{le-ltb, lt-leb, ltb-false}
-use Rattle.rules.specs.declared.Planning.TheVariants.{Planned as IsPlanned}
-use Rattle.rules.specs.declared.Listing.TheVariants.{Listed}
 use Rattle.rules.specs.declared.Femtofarad.{Femtofarad}
 use Rattle.rules.specs.declared.Femtosecond.{Femtosecond}
 use Rattle.rules.specs.declared.Row.{Row}
@@ -37,7 +35,7 @@ use Rattle.rows.specs.Links.{row_is}
 use Rattle.rows.specs.Given.{held, net-accepted, standing, driver_is}
 use Rattle.columns.specs.Parts.{part, part-cons, part_length}
 use Rattle.columns.specs.Run.{Candidate, blank, run, stack, place_at}
-use Rattle.columns.specs.Made.{Room, Stand}
+use Rattle.columns.specs.Made.{Room, Stand, room-run}
 use Rattle.walks.specs.Shown.{Carried, shows-some, shows-fit}
 use Rattle.walks.specs.Made.{Made}
 use Rattle.rooms.specs.Rooms.{short_by, short_list_by}
@@ -66,6 +64,13 @@ pub record Zeroed (ls : List ℕ) (ts : List ℤ) (ws : List ℕ) : Type 0 where
 
 pub exact-room : {ls : List ℕ} {ts : List ℤ} {ws : List ℕ} → Exact ls ts ws → Room ls ts ws
 exact-room e = record { loads = omega (arith, e.loads); times = omega (arith, e.times); words = omega (arith, e.words) }
+
+-- areas that keep their length keep it, and hold their room of candidates
+pub exact-kept : {ls ls' : List ℕ} {ts ts' : List ℤ} {ws ws' : List ℕ} → Exact ls ts ws → length ls' ≡ length ls → length ts' ≡ length ts → length ws' ≡ length ws → Exact ls' ts' ws'
+exact-kept e a b c = record { loads = a ∙ e.loads; times = b ∙ e.times; words = c ∙ e.words }
+
+pub exact-long : {ls : List ℕ} {ts : List ℤ} {ws : List ℕ} → Exact ls ts ws → work_room ≤ length (run ls ts ws)
+exact-long e = room-run work_room (exact-room e) (omega arith)
 
 -- cleared over its room, an area of exactly its room is all zero
 cleared-all : {A : Type 0} (n : ℕ) (z : A) (l after : List A) → length l ≡ n → after ≡ replicate n z ++ drop n l → after ≡ replicate n z
@@ -226,17 +231,17 @@ cleared-is ls ts ws Z a b c = rw (a, b, c, Z.loads, Z.times, Z.words)
 
 module _ {types rows : List ℕ} {due : List ℤ} {count n : ℕ} (P : Passed (tables_of types rows due) (counts_of count n)) {ls : List ℕ} {ts : List ℤ} {ws : List ℕ} (room : Room ls ts ws) where
   pub plan-promise : (before after : List ℕ) (slack : Femtosecond) (load : Femtofarad) (work' : Columns) → placement_room ≤ length before → PlanOf (entries_of types rows due count n) before after (timing_of slack.0 load.0) → work' ≡ columns.cleared (columns_of ls ts ws)
-      → PlanPromise columns (tabled (tables_of types rows due) (counts_of count n)) (plan_areas before (columns_of ls ts ws)) (IsPlanned slack load) (plan_areas after work')
+      → PlanPromise columns (tabled (tables_of types rows due) (counts_of count n)) (plan_areas before (columns_of ls ts ws)) (Ok (record { slack = slack; load = load })) (plan_areas after work')
   unfolding PlanPromise plan_figures
   plan-promise before after slack load work' four plan clear = rw (le-ltb _ _ four, room-columns room, passed-own (tables_of types rows due) (counts_of count n) P) (timing_of slack.0 load.0, refl, plan, clear)
 
   pub list-promise : (row : ℕ) (before after : Lent) (len : ℕ) (work' : Columns) → row < n → list_room ≤ length before.loads → list_room ≤ length before.times → ListOf (entries_of types rows due count n) row before after len → work' ≡ columns.cleared (columns_of ls ts ws)
-      → ListPromise columns (tabled (tables_of types rows due) (counts_of count n)) row (list_areas before (columns_of ls ts ws)) (Listed len) (list_areas after work')
+      → ListPromise columns (tabled (tables_of types rows due) (counts_of count n)) row (list_areas before (columns_of ls ts ws)) (Ok len) (list_areas after work')
   unfolding ListPromise list_figures list_refusal short_lent or_else
   list-promise row before after len work' inside a b list clear = rw (le-ltb _ _ a, le-ltb _ _ b, room-columns room, passed-own (tables_of types rows due) (counts_of count n) P, lt-leb _ _ inside) (len, refl, list, clear)
 
   pub loads-promise : (row : ℕ) (before after : List ℕ) (len : ℕ) (work' : Columns) → row < n → list_room ≤ length before → LoadsOf (entries_of types rows due count n) row before after len → work' ≡ columns.cleared (columns_of ls ts ws)
-      → LoadsPromise columns (tabled (tables_of types rows due) (counts_of count n)) row (loads_areas before (columns_of ls ts ws)) (Listed len) (loads_areas after work')
+      → LoadsPromise columns (tabled (tables_of types rows due) (counts_of count n)) row (loads_areas before (columns_of ls ts ws)) (Ok len) (loads_areas after work')
   unfolding LoadsPromise
   loads-promise row before after len work' inside a (times, list) clear = (times, list-promise row (lent_of before unseen_times) (lent_of after times) len work' inside a (omega arith) list clear)
 

@@ -1,5 +1,5 @@
 // The best of a list behind a repeater or the driver: the first of those whose time is the greatest.
-ghost use Rattle.std.specs.Prelude.{◌+◌, ◌*◌, ◌≤◌, ◌<◌};
+ghost use Rattle.std.specs.Prelude.{◌+◌, ◌*◌, ◌≤◌};
 ghost use Rattle.std.specs.Int.Signed.{mag};
 ghost use Rattle.rules.specs.Quantities.{most_ohms};
 ghost use Rattle.units.specs.Times.{Own};
@@ -23,16 +23,11 @@ pub fn best_from(
     requires own { Own own.0 × (r.0 ≤ most_ohms) }
     ensures { Chosen (delay_of (mag own.0) r.0) loads.now times.now at n result.at result.value.0 }
 {
-    let end = at + n;
-    let mut best = Choice {
-        at: at,
-        value: cells::value_at(loads, times, at, own, r),
-    };
-    let mut i = at + 1;
-    while i < end {
-        let v = cells::value_at(loads, times, i, own, r);
-        best = pairs::better(best, i, v);
-        i += 1;
+    let value = cells::value_at(loads, times, at, own, r);
+    let mut best = Choice { at, value };
+    for i in at + 1..at + n {
+        let value = cells::value_at(loads, times, i, own, r);
+        best = pairs::better(best, i, value);
     }
     best
 }

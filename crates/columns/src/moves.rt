@@ -1,4 +1,5 @@
-// A list moved to another place of the run. Where it stays nothing is copied.
+// A list moved to another place of the run. Where it stays nothing is copied. A candidate is moved at a time: the library's `copy_within` on
+// each column is slower on lists as short as most are.
 ghost use Rattle.std.specs.Prelude.{◌+◌, ◌≤◌};
 ghost use Rattle.rules.specs.Quantities.{work_room};
 ghost use Rattle.columns.specs.Run.{run};
@@ -20,10 +21,8 @@ pub fn move_down(
     requires to_le_from { (to ≤ from) × (from + k ≤ work_room) }
     ensures { Moved (run loads.old times.old words.old) (run loads.new times.new words.new) from to k }
 {
-    let mut p = 0;
-    while p < k {
+    for p in 0..k {
         cells::copy_at(loads, times, words, from + p, to + p);
-        p += 1;
     }
 }
 
@@ -40,10 +39,8 @@ pub fn move_up(
     requires from_le_to { (from ≤ to) × (to + k ≤ work_room) }
     ensures { Moved (run loads.old times.old words.old) (run loads.new times.new words.new) from to k }
 {
-    let mut left = k;
-    while 0 < left {
-        left -= 1;
-        cells::copy_at(loads, times, words, from + left, to + left);
+    for p in (0..k).rev() {
+        cells::copy_at(loads, times, words, from + p, to + p);
     }
 }
 
@@ -59,12 +56,9 @@ pub fn move_list(
     requires k_bound { (from + k ≤ work_room) × (to + k ≤ work_room) }
     ensures { Moved (run loads.old times.old words.old) (run loads.new times.new words.new) from to k }
 {
-    if from == to {
-        return;
-    }
     if to < from {
         move_down(loads, times, words, from, to, k);
-        return;
+    } else if from < to {
+        move_up(loads, times, words, from, to, k);
     }
-    move_up(loads, times, words, from, to, k);
 }

@@ -10,7 +10,7 @@ ghost use Rattle.columns.specs.Run.{place_at, Puts};
 use rooms::PLACEMENT_ROOM;
 use rooms::words::MARKS_IN_WORD;
 
-// The words of candidate i.
+// The words of candidate i. They are read one by one: the library's way from a slice to an array may fail.
 pub fn words_at(words: &[u64], i: usize) -> [u64; PLACEMENT_ROOM]
     requires { placement_room * i + placement_room ≤ length words.now }
     ensures { marks result ≡ place_at words.now i }
@@ -19,6 +19,7 @@ pub fn words_at(words: &[u64], i: usize) -> [u64; PLACEMENT_ROOM]
     [words[at], words[at + 1], words[at + 2], words[at + 3]]
 }
 
+// One by one: the library's `copy_from_slice` compares the two places in every turn of a walk.
 pub fn put_words(words: &mut [u64], i: usize, new: [u64; PLACEMENT_ROOM])
     requires { placement_room * i + placement_room ≤ length words.old }
     ensures { Puts words.old words.new i (marks new) }
@@ -38,8 +39,7 @@ pub fn copy_words(words: &mut [u64], from: usize, to: usize)
     if from == to {
         return;
     }
-    let w = words_at(words, from);
-    put_words(words, to, w);
+    put_words(words, to, words_at(words, from));
 }
 
 // The words of candidates i and j joined, put at o. All are read before the first is written.
@@ -47,17 +47,8 @@ pub fn join_words(words: &mut [u64], i: usize, j: usize, o: usize)
     requires { (placement_room * i + placement_room ≤ length words.old) × ((placement_room * j + placement_room ≤ length words.old) × (placement_room * o + placement_room ≤ length words.old)) }
     ensures { Puts words.old words.new o (join_marks (place_at words.old i) (place_at words.old j)) }
 {
-    let a = PLACEMENT_ROOM * i;
-    let b = PLACEMENT_ROOM * j;
-    let to = PLACEMENT_ROOM * o;
-    let first = words[a] | words[b];
-    let second = words[a + 1] | words[b + 1];
-    let third = words[a + 2] | words[b + 2];
-    let fourth = words[a + 3] | words[b + 3];
-    words[to] = first;
-    words[to + 1] = second;
-    words[to + 2] = third;
-    words[to + 3] = fourth;
+    let joined = marks::joined(words_at(words, i), words_at(words, j));
+    put_words(words, o, joined);
 }
 
 // The mark of site k of candidate i becomes m. Only the word that holds it is read and written.

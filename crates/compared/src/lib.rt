@@ -1,6 +1,5 @@
 // What the program `storages` does without saying anything: the nets of its input parted, and two answers compared.
 #![tactic(auto)]
 
-pub mod figures;
+pub mod answers;
 pub mod parting;
-pub mod same;

@@ -1,8 +1,8 @@
 -- The first childless row from the last row back, and finishing. Assumes nothing.
 use Rattle.std.proofs.Math.Path.{◌≡◌}
-use Rattle.std.specs.Prelude.{refl, Bool, true, false, cond, not, ◌||◌, List, [], ◌∷◌, ℕ, zero, suc, ◌+◌, ◌*◌, ◌≤◌, ◌<◌, ltb, eqb, ℤ, take, drop, get_or, replicate}
+use Rattle.std.specs.Prelude.{refl, Bool, true, false, cond, not, ◌||◌, List, [], ◌∷◌, ℕ, zero, suc, ◌+◌, ◌*◌, ◌≤◌, ◌<◌, ltb, eqb, ℤ, take, drop, get_or, replicate, Option, Some, None}
 use Rattle.std.proofs.Common.{sym, ap, ◌∙◌, arith, add-one, length-set, drop_of_length-le, drop-cons, get_or-set_same, get_or-set_other, get_or-take, lt-ltb, eqb-true}
-use Rattle.std.proofs.Math.Option.{Option, none, some, or_else}
+use Rattle.std.proofs.Math.Option.{Option as Maybe, none, some, or_else}
 use Rattle.std.proofs.Math.ListN.{length}
 use Rattle.std.proofs.lemmas.List.{get_or-replicate, length-replicate}
 use Rattle.std.proofs.lemmas.Bool.{eqb-false}
@@ -17,8 +17,6 @@ use Rattle.rules.specs.Entries.{Entry, types_of, rows_of, row_of}
 use Rattle.rules.specs.Refusals.{some?, is_sink, under, childless, childless_at, line_of_row, last_refusal}
 use Rattle.text.specs.Stretches.{either, absurd}
 use Rattle.checks.specs.declared.Passed.{Passed}
-use Rattle.ending.specs.declared.Found.{Found}
-use Rattle.ending.specs.declared.Found.TheVariants.{At, Nothing}
 use Rattle.checks.specs.Checks.{place_at}
 use Rattle.entries.specs.Held.{Holds}
 use Rattle.ending.specs.Below.{found_of, found_with, marked_with, marks_of, FirstChildless, FoundIn}
@@ -70,21 +68,21 @@ row-parent (x ∷ rows) (suc i) d h =
     rw e (row-parent rows i d (omega arith))
 
 -- ---- one row further back
-found-more : (x : Row) (i : ℕ) (b : Bool) (found : Option ℕ)
+found-more : (x : Row) (i : ℕ) (b : Bool) (found : Maybe ℕ)
     → found_with (kind_word x.kind) (cond b 1 0) i (found_of found) ≡ found_of (or_else (given_when (not (is_sink x.kind || b)) i) found)
 unfolding or_else
 found-more x i true found = rw (sink-word x.kind) (either (eqb (kind_word x.kind) 2) (λ t. rw t) (λ f. rw f))
 found-more x i false found = rw (sink-word x.kind) (either (eqb (kind_word x.kind) 2) (λ t. rw t) (λ f. rw f))
 
 -- the loop's state at row i: what was found among the rows from i on, and their marks
-pub record From (words : List ℕ) (count i : ℕ) (below : List ℕ) (found : Found) : Type 0 where
+pub record From (words : List ℕ) (count i : ℕ) (below : List ℕ) (found : Option ℕ) : Type 0 where
   pub found_is : (rows : List Row) → length rows ≡ count → row_table rows ≡ take (words_a_row * count) words → found ≡ found_of (childless i (drop i rows))
   pub below_is : (rows : List Row) → length rows ≡ count → row_table rows ≡ take (words_a_row * count) words → below ≡ marks_of (drop i rows)
 
 none_left : (rows : List Row) (count : ℕ) → length rows ≡ count → drop count rows ≡ []
 none_left rows count l = drop_of_length-le rows {i = count} (omega arith)
 
-pub from_end : (words : List ℕ) (count : ℕ) (below : List ℕ) → below ≡ replicate rows_room 0 → From words count count below Nothing
+pub from_end : (words : List ℕ) (count : ℕ) (below : List ℕ) → below ≡ replicate rows_room 0 → From words count count below None
 unfolding childless marks_of
 from_end words count below e =
     record {
@@ -92,7 +90,7 @@ from_end words count below e =
       below_is = λ rows l g. rw (none_left rows count l) e;
     }
 
-module _ (words : List ℕ) (count i : ℕ) (below : List ℕ) (found : Found) (s : From words count (i + 1) below found) (few : count ≤ rows_room) (more : i < count) where
+module _ (words : List ℕ) (count i : ℕ) (below : List ℕ) (found : Option ℕ) (s : From words count (i + 1) below found) (few : count ≤ rows_room) (more : i < count) where
   -- the words of the row
   kind_at : (rows : List Row) (d : Row) → length rows ≡ count → row_table rows ≡ take (words_a_row * count) words → get_or words (words_a_row * i) 0 ≡ kind_word (get_or rows i d).kind
   kind_at rows d l g = sym (get_or-take (words_a_row * count) words (words_a_row * i) 0 (omega arith)) ∙ ap (λ (w : List ℕ). get_or w (words_a_row * i) 0) (sym g) ∙ row-kind rows i d (omega arith)
@@ -118,7 +116,7 @@ module _ (words : List ℕ) (count i : ℕ) (below : List ℕ) (found : Found) (
 any_row : Row
 any_row = row_of 0 0 0 0 Driver
 
-pub from_back : (words : List ℕ) (count k i : ℕ) (below : List ℕ) (found : Found) → k ≡ i + 1 → From words count k below found → count ≤ rows_room → i < count
+pub from_back : (words : List ℕ) (count k i : ℕ) (below : List ℕ) (found : Option ℕ) → k ≡ i + 1 → From words count k below found → count ≤ rows_room → i < count
     → From words count i (marked_with (get_or words (words_a_row * i + row_parent) 0) below) (found_with (get_or words (words_a_row * i) 0) (get_or below i 0) i found)
 from_back words count k i below found e s few more =
     let t : From words count (i + 1) below found = rw e at s in
@@ -130,7 +128,7 @@ from_back words count k i below found e s few more =
 pub marked-room : (p : ℕ) (l : List ℕ) → length l ≡ rows_room → length (marked_with p l) ≡ rows_room
 marked-room p l e = marked-length p l ∙ e
 
-pub found_in : (kind below i count : ℕ) (found : Found) → i < count → FoundIn count found → FoundIn count (found_with kind below i found)
+pub found_in : (kind below i count : ℕ) (found : Option ℕ) → i < count → FoundIn count found → FoundIn count (found_with kind below i found)
 found_in kind below i count found h f =
     either (eqb kind 2)
     (λ t. rw t f)
@@ -156,23 +154,23 @@ module _ (before : List Entry) (types words : List ℕ) (due : List ℤ) (n : Pa
   unfolding last_refusal or_else
   finish-some e = rw (some-driven (rows_of before) h.rows_counted e)
 
-  pub finish-at : (r : Found) (i line : ℕ) → (n.rows ≡ 0 → ⊥) → FirstChildless words n.rows r → r ≡ At i → line ≡ n.types + i + 1 → last_refusal before ≡ some (Childless line)
+  pub finish-at : (r : Option ℕ) (i line : ℕ) → (n.rows ≡ 0 → ⊥) → FirstChildless words n.rows r → r ≡ Some i → line ≡ n.types + i + 1 → last_refusal before ≡ some (Childless line)
   unfolding line_of_row
   finish-at r i line e f g l = finish-some e ∙ by (childless 0 (rows_of before)) (sym (f (rows_of before) h.rows_counted h.row_words) ∙ g)
     where
-      by : (o : Option ℕ) → found_of o ≡ At i → childless_at before o ≡ some (Childless line)
+      by : (o : Maybe ℕ) → found_of o ≡ Some i → childless_at before o ≡ some (Childless line)
       by none q = let z : ◌≡◌ {A = ℕ} 0 1 = cc in absurd (omega arith)
       by (some k) q =
           let w : k ≡ i = cc in
           let v : length (types_of before) + k + 1 ≡ line = omega (arith, h.types_counted) in
           rw v
 
-  pub finish-through : (r : Found) → (n.rows ≡ 0 → ⊥) → FirstChildless words n.rows r → r ≡ Nothing → last_refusal before ≡ none
+  pub finish-through : (r : Option ℕ) → (n.rows ≡ 0 → ⊥) → FirstChildless words n.rows r → r ≡ None → last_refusal before ≡ none
   finish-through r e f g = finish-some e ∙ by (childless 0 (rows_of before)) (sym (f (rows_of before) h.rows_counted h.row_words) ∙ g)
     where
-      by : (o : Option ℕ) → found_of o ≡ Nothing → childless_at before o ≡ none
+      by : (o : Maybe ℕ) → found_of o ≡ None → childless_at before o ≡ none
       by none q = refl
       by (some k) q = let z : ◌≡◌ {A = ℕ} 0 1 = cc in absurd (omega arith)
 
-pub found_at : (count : ℕ) (r : Found) (i : ℕ) → r ≡ At i → FoundIn count r → i < count
+pub found_at : (count : ℕ) (r : Option ℕ) (i : ℕ) → r ≡ Some i → FoundIn count r → i < count
 found_at count r i e h = rw e at h

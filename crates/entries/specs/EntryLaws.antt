@@ -1,5 +1,5 @@
 -- What the words of a row state, test by test. Assumes nothing.
-use Rattle.std.specs.Prelude.{◌≡◌, List, ℕ, zero, suc, ◌<◌, ◌^◌, ℤ, pos, negsuc}
+use Rattle.std.specs.Prelude.{◌≡◌, List, ℕ, zero, suc, ◌<◌, ◌^◌, ℤ, pos, negsuc, Result, Err}
 use Rattle.std.proofs.Math.Path.{refl}
 use Rattle.std.proofs.Common.{sym, ap, ◌∙◌, to_z, of_z}
 use Rattle.std.proofs.Math.Dec.{eqb-suc-zero}
@@ -7,14 +7,13 @@ use Rattle.std.specs.Int.Signed.{mag}
 use Rattle.std.specs.Int.{w64}
 use borrow.Author.Tests.{ne_eqb}
 use Rattle.rules.specs.declared.Refusal.TheVariants.{Form}
-use Rattle.rules.specs.declared.Checking.{Checking}
-use Rattle.rules.specs.declared.Checking.TheVariants.{Refused as NotAccepted}
 use Rattle.rules.specs.Entries.{Entry, driver, point, sink, malformed}
 use Rattle.rules.specs.Tables.{is_zero, row_by}
 use Rattle.text.specs.Stretches.{absurd}
 use Rattle.text.specs.Numbers.{bits_back}
 use Rattle.checks.specs.declared.Passed.{Passed}
 use Rattle.entries.specs.Lines.{line_for}
+use Rattle.rules.specs.declared.Refusal.{Refusal}
 use Rattle.checks.specs.Checks.{check_of, place_at}
 
 -- a time that is zero, by its bits
@@ -75,8 +74,8 @@ point-time p r c s n (negsuc m) e i = rw e
 
 -- ---- the words' check, from what they state
 module _ (rows : List ℕ) (n : Passed) (e : Entry) where
-  pub form-refused : (place : ℕ) → place ≡ place_at n → malformed ≡ e → NotAccepted (Form place) ≡ check_of rows n (line_for (place_at n) e)
+  pub form-refused : (place : ℕ) → place ≡ place_at n → malformed ≡ e → Err (Form place) ≡ check_of rows n (line_for (place_at n) e)
   form-refused place p h = rw p (ap (λ (x : Entry). check_of rows n (line_for (place_at n) x)) h)
 
-  pub stated-checked : (x : Entry) (r : Checking) → r ≡ check_of rows n (line_for (place_at n) x) → x ≡ e → r ≡ check_of rows n (line_for (place_at n) e)
+  pub stated-checked : (x : Entry) (r : Result (Unit {0}) Refusal) → r ≡ check_of rows n (line_for (place_at n) x) → x ≡ e → r ≡ check_of rows n (line_for (place_at n) e)
   stated-checked x r h g = h ∙ ap (λ (y : Entry). check_of rows n (line_for (place_at n) y)) g

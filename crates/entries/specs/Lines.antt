@@ -1,5 +1,5 @@
 -- What a line reader answers: the line that an entry states, with numbers past every range cut. Assumes nothing.
-use Rattle.std.specs.Prelude.{◌≡◌, refl, List, [], ◌∷◌, ℕ, min, ℤ, length, get_or}
+use Rattle.std.specs.Prelude.{◌≡◌, refl, List, [], ◌∷◌, ℕ, min, ℤ, length, get_or, Result, Ok, Err}
 use Rattle.std.proofs.Common.{arith}
 use Rattle.rules.specs.declared.Pin.{Pin}
 use Rattle.rules.specs.declared.Refusal.TheVariants.{Form, Room}
@@ -10,7 +10,8 @@ use Rattle.text.specs.Numbers.{capped_time}
 use Rattle.repeaters.specs.Repeaters.{buffer_of}
 use Rattle.checks.specs.declared.Wire.{Wire}
 use Rattle.checks.specs.declared.Line.{Line}
-use Rattle.checks.specs.declared.Line.TheVariants.{Repeater as TypeLine, Driver as DriverLine, Point as PointLine, Sink as SinkLine, Refused as RefusedLine}
+use Rattle.rules.specs.declared.Refusal.{Refusal}
+use Rattle.checks.specs.declared.Line.TheVariants.{Repeater as TypeLine, Driver as DriverLine, Point as PointLine, Sink as SinkLine}
 
 -- a word, cut above every range
 abbrev pub word : ℕ → ℕ
@@ -32,13 +33,13 @@ capped malformed = malformed
 capped beyond = beyond
 
 -- the line that states an entry
-abbrev pub line_for : (place : ℕ) → Entry → Line
-line_for place (type input resistance own) = TypeLine (buffer_of input resistance own)
-line_for place (driver resistance) = DriverLine (record { 0 = resistance })
-line_for place (point parent resistance capacitance site) = PointLine (wire_of parent resistance capacitance site)
-line_for place (sink parent resistance capacitance site pin due) = SinkLine (wire_of parent resistance capacitance site) (pin_of pin due)
-line_for place malformed = RefusedLine (Form place)
-line_for place beyond = RefusedLine (Room place)
+abbrev pub line_for : (place : ℕ) → Entry → Result Line Refusal
+line_for place (type input resistance own) = Ok (TypeLine (buffer_of input resistance own))
+line_for place (driver resistance) = Ok (DriverLine (record { 0 = resistance }))
+line_for place (point parent resistance capacitance site) = Ok (PointLine (wire_of parent resistance capacitance site))
+line_for place (sink parent resistance capacitance site pin due) = Ok (SinkLine (wire_of parent resistance capacitance site) (pin_of pin due))
+line_for place malformed = Err (Form place)
+line_for place beyond = Err (Room place)
 
 -- the letter of a line is a field of one byte; any other is none of the letters
 abbrev pub letter_of : List ℕ → ℕ

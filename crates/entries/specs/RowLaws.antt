@@ -1,10 +1,8 @@
 -- The words of a table's entry, where its line is accepted, are those that the line would store. Assumes nothing.
-use Rattle.std.specs.Prelude.{◌≡◌, List, [], ◌∷◌, ℕ, zero, suc, ◌+◌, ◌*◌, ◌≤◌, ◌<◌, eqb, ℤ, pos, negsuc, length, take, get_or}
+use Rattle.std.specs.Prelude.{◌≡◌, List, [], ◌∷◌, ℕ, zero, suc, ◌+◌, ◌*◌, ◌≤◌, ◌<◌, eqb, ℤ, pos, negsuc, length, take, get_or, Result, Ok}
 use Rattle.std.proofs.Math.Path.{refl}
 use Rattle.std.proofs.Common.{sym, ap, ◌∙◌, append-nil, arith, add-zero, eqb-true}
 use Rattle.std.proofs.lemmas.Bool.{eqb-false}
-use Rattle.rules.specs.declared.Checking.{Checking}
-use Rattle.rules.specs.declared.Checking.TheVariants.{Accepted}
 use Rattle.rules.specs.Entries.{malformed}
 use Rattle.rules.specs.Tables.{is_zero, row_by, row_entry, type_entry, words_a_type, words_a_row, row_parent, row_resistance, row_capacitance, row_site, row_pin}
 use Rattle.text.specs.Stretches.{either, absurd}
@@ -18,6 +16,7 @@ use Rattle.checks.specs.Checks.{check_of, place_at}
 use Rattle.entries.specs.Held.{Grown, with_row, counted_with, row_words_of, due_times_of, type_words_of}
 use Rattle.entries.specs.Entries.{row_entry_of, row_check}
 use Rattle.entries.specs.EntryLaws.{driver_parent, driver_capacitance, driver_site, driver_pin, driver-time, point_pin, point-time, other_row}
+use Rattle.rules.specs.declared.Refusal.{Refusal}
 use Rattle.entries.specs.Words.{one-read, three-read, six-read}
 
 -- ---- decided
@@ -30,7 +29,7 @@ zero_or (pos (suc n)) yes' no' = no' (λ e. let w : suc n ≡ 0 = cc in omega ar
 zero_or (negsuc n) yes' no' = no' (λ e. let w : ◌≡◌ {A = ℕ} 0 1 = cc in omega arith)
 
 -- ---- the words that a row's line stores
-record Stated (n : Passed) (line : Line) (k p r c s pin : ℕ) (z : ℤ) : Type 0 where
+record Stated (n : Passed) (line : Result Line Refusal) (k p r c s pin : ℕ) (z : ℤ) : Type 0 where
   words : row_words_of line ≡ k ∷ p ∷ r ∷ c ∷ s ∷ pin ∷ []
   time : due_times_of line ≡ z ∷ []
   no_type : type_words_of line ≡ []
@@ -70,14 +69,14 @@ module _ (n : Passed) (place p r c s pin : ℕ) (z : ℤ) where
       (λ b. same_or k 2 (sink-stated k) (λ d. absurd (good (other_row p r c s pin z k a b d)))))
 
 -- ---- the areas as grown, since the words are there
-not-malformed : (rows : List ℕ) (n : Passed) (line : Line) (r : Checking) (place : ℕ) → line ≡ line_for place malformed → r ≡ check_of rows n line → r ≡ Accepted → ⊥
+not-malformed : (rows : List ℕ) (n : Passed) (line : Result Line Refusal) (r : Result (Unit {0}) Refusal) (place : ℕ) → line ≡ line_for place malformed → r ≡ check_of rows n line → r ≡ Ok tt → ⊥
 not-malformed rows n line r place e f a =
     let g : r ≡ check_of rows n (line_for place malformed) = rw e at f in
     let w : ◌≡◌ {A = ℕ} 0 1 = cc in
     omega arith
 
-pub row-grown : (types rows : List ℕ) (due : List ℤ) (n : Passed) (i place : ℕ) (line : Line) (r : Checking) → n.rows ≡ i → line ≡ line_for place (row_entry_of rows due i)
-    → r ≡ check_of rows n line → r ≡ Accepted → words_a_row * i + words_a_row ≤ length rows → i < length due → Grown n line types types rows rows due due
+pub row-grown : (types rows : List ℕ) (due : List ℤ) (n : Passed) (i place : ℕ) (line : Result Line Refusal) (r : Result (Unit {0}) Refusal) → n.rows ≡ i → line ≡ line_for place (row_entry_of rows due i)
+    → r ≡ check_of rows n line → r ≡ Ok tt → words_a_row * i + words_a_row ≤ length rows → i < length due → Grown n line types types rows rows due due
 row-grown types rows due n i place line r at line-is r-is a long timed =
     let k = get_or rows (words_a_row * i) 0 in
     let p = get_or rows (words_a_row * i + row_parent) 0 in
@@ -95,7 +94,7 @@ row-grown types rows due n i place line r at line-is r-is a long timed =
     }
 
 -- a row is counted, and by its site word
-pub row-counted : (rows : List ℕ) (due : List ℤ) (n : Passed) (i : ℕ) (r : Checking) → r ≡ row_check rows due n i → r ≡ Accepted
+pub row-counted : (rows : List ℕ) (due : List ℤ) (n : Passed) (i : ℕ) (r : Result (Unit {0}) Refusal) → r ≡ row_check rows due n i → r ≡ Ok tt
     → ((counted_with n (line_for (place_at n) (row_entry_of rows due i))).rows ≡ n.rows + 1) × (with_row n (get_or rows (words_a_row * i + row_site) 0) ≡ counted_with n (line_for (place_at n) (row_entry_of rows due i)))
 row-counted rows due n i r r-is a =
     let good : malformed ≡ row_entry_of rows due i → ⊥ = λ m. not-malformed rows n (line_for (place_at n) (row_entry_of rows due i)) r (place_at n) (ap (line_for (place_at n)) (sym m)) r-is a in
@@ -103,7 +102,7 @@ row-counted rows due n i r r-is a =
     (st.one_row, st.by_site)
 
 pub type-grown : (types rows : List ℕ) (due : List ℤ) (n : Passed) (i : ℕ) (t : Buffer) → n.types ≡ i → t ≡ buffer_at types i → words_a_type * i + words_a_type ≤ length types
-    → Grown n (TypeLine t) types types rows rows due due
+    → Grown n (Ok (TypeLine t)) types types rows rows due due
 unfolding buffer_at buffer_of
 type-grown types rows due n i t at e long =
     record {
@@ -114,9 +113,9 @@ type-grown types rows due n i t at e long =
 
 -- the line of a type and of a row is that of its entry
 pub type-line-is : (types rows : List ℕ) (due : List ℤ) (i place : ℕ) (t : Buffer) → t ≡ buffer_at types i
-    → TypeLine t ≡ line_for place (type_entry (record { types = types; rows = rows; due = due }) i)
+    → Ok (TypeLine t) ≡ line_for place (type_entry (record { types = types; rows = rows; due = due }) i)
 unfolding type_entry buffer_at
-type-line-is types rows due i place t e = ap TypeLine e
+type-line-is types rows due i place t e = ap (λ (x : Buffer). Ok (TypeLine x)) e
 
 pub row-entry-is : (types rows : List ℕ) (due : List ℤ) (i : ℕ) → row_entry_of rows due i ≡ row_entry (record { types = types; rows = rows; due = due }) i
 unfolding row_entry

@@ -1,5 +1,5 @@
 // Areas of words: an entry stored after those that have passed.
-ghost use Rattle.std.specs.Prelude.{◌≡◌, [], ◌∷◌, ◌++◌, ◌+◌, ◌*◌, ◌≤◌, ◌<◌, pos, length, take};
+ghost use Rattle.std.specs.Prelude.{◌≡◌, [], ◌∷◌, ◌++◌, ◌+◌, ◌*◌, ◌≤◌, ◌<◌, pos, length, take, Ok};
 ghost use Rattle.rules.specs.Tables.{words_a_type, words_a_row};
 ghost use Rattle.rules.specs.Quantities.{types_room, rows_room};
 ghost use Rattle.rooms.specs.Cap.{word_cap};
@@ -19,11 +19,7 @@ fn own_word(t: Femtosecond) -> u32
     requires { own_word t.0 < word_cap }
     ensures { result ≡ own_word t.0 }
 {
-    let own = t.0;
-    if own < 0 {
-        return 0;
-    }
-    own as u32
+    if t.0 < 0 { 0 } else { t.0 as u32 }
 }
 
 fn store_type(types: &mut [u32], i: usize, t: Buffer)
@@ -31,11 +27,9 @@ fn store_type(types: &mut [u32], i: usize, t: Buffer)
     ensures { take (words_a_type * (i + 1)) types.new ≡ take (words_a_type * i) types.old ++ words_of_type t }
 {
     let at = TYPE_WORDS * i;
-    let own = t.own;
-    let word = own_word(own);
     types[at] = t.input.0;
     types[at + TYPE_RESISTANCE] = t.resistance.0;
-    types[at + TYPE_OWN] = word;
+    types[at + TYPE_OWN] = own_word(t.own);
 }
 
 fn store_words(rows: &mut [u32], i: usize, kind: u32, w: Wire, pin: u32)
@@ -63,13 +57,12 @@ fn store_row(rows: &mut [u32], due: &mut [i64], i: usize, kind: u32, w: Wire, p:
     ensures words { take (words_a_row * (i + 1)) rows.new ≡ take (words_a_row * i) rows.old ++ words_of_row kind w p.load.0 }
     ensures time { take (i + 1) due.new ≡ take i due.old ++ (p.due.0 ∷ []) }
 {
-    let load = p.load.0;
-    let time = p.due.0;
-    store_words(rows, i, kind, w, load);
-    store_due(due, i, time);
+    store_words(rows, i, kind, w, p.load.0);
+    store_due(due, i, p.due.0);
 }
 
 // What a row without a pin has there.
+#[tactic(auto, unfolding(crate::specs::Lines::pin_of))]
 fn no_pin() -> Pin
     ensures { result ≡ pin_of 0 (pos 0) }
 {
@@ -80,6 +73,7 @@ fn no_pin() -> Pin
 }
 
 // A driver has a resistance and no wire above it.
+#[tactic(auto, unfolding(crate::specs::Lines::wire_of))]
 fn no_wire(resistance: Ohm) -> Wire
     ensures { result ≡ wire_of 0 resistance.0 0 0 }
 {
@@ -91,27 +85,16 @@ fn no_wire(resistance: Ohm) -> Wire
     }
 }
 
-// The line's entry, stored after those that have passed.
+// The line's entry, stored after those that have passed. The three areas are lent: a struct of three `&mut` would need a clause for each that it
+// is still the same.
 pub fn store_line(types: &mut [u32], rows: &mut [u32], due: &mut [i64], n: Passed, line: Line)
-    requires { Roomy n line × ((words_a_type * types_room ≤ length types.old) × ((words_a_row * rows_room ≤ length rows.old) × (rows_room ≤ length due.old))) }
-    ensures { Grown n line types.old types.new rows.old rows.new due.old due.new }
+    requires { Roomy n (Ok line) × ((words_a_type * types_room ≤ length types.old) × ((words_a_row * rows_room ≤ length rows.old) × (rows_room ≤ length due.old))) }
+    ensures { Grown n (Ok line) types.old types.new rows.old rows.new due.old due.new }
 {
-    let at = n.rows;
     match line {
-        Line::Repeater(t) => {
-            let i = n.types;
-            store_type(types, i, t);
-        }
-        Line::Driver(o) => {
-            let wire = no_wire(o);
-            let pin = no_pin();
-            store_row(rows, due, at, DRIVER, wire, pin);
-        }
-        Line::Point(w) => {
-            let pin = no_pin();
-            store_row(rows, due, at, POINT, w, pin);
-        }
-        Line::Sink(w, p) => store_row(rows, due, at, SINK, w, p),
-        Line::Refused(_) => {}
+        Line::Repeater(t) => store_type(types, n.types, t),
+        Line::Driver(o) => store_row(rows, due, n.rows, DRIVER, no_wire(o), no_pin()),
+        Line::Point(w) => store_row(rows, due, n.rows, POINT, w, no_pin()),
+        Line::Sink(w, p) => store_row(rows, due, n.rows, SINK, w, p),
     }
 }

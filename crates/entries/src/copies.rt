@@ -1,25 +1,12 @@
 // An area's start copied.
 ghost use Rattle.std.specs.Prelude.{◌≡◌, ◌++◌, ◌≤◌, length, take, drop};
 
-// The first words of an area, copied to the start of another.
-pub fn copy_words(from: &[u32], to: &mut [u32], count: usize)
+// The first places of an area, copied to the start of another. The library's `copy_from_slice` calls `memmove`, which a caller in C need not have.
+pub fn copy_start<T: Copy>(from: &[T], to: &mut [T], count: usize)
     requires { (count ≤ length from.now) × (count ≤ length to.old) }
     ensures { to.new ≡ take count from.now ++ drop count to.old }
 {
-    let mut i = 0;
-    while i < count {
+    for i in 0..count {
         to[i] = from[i];
-        i += 1;
-    }
-}
-
-pub fn copy_times(from: &[i64], to: &mut [i64], count: usize)
-    requires { (count ≤ length from.now) × (count ≤ length to.old) }
-    ensures { to.new ≡ take count from.now ++ drop count to.old }
-{
-    let mut i = 0;
-    while i < count {
-        to[i] = from[i];
-        i += 1;
     }
 }

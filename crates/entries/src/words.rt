@@ -13,8 +13,9 @@ use rooms::ROW_WORDS;
 use rooms::words::{
     DRIVER, POINT, ROW_CAPACITANCE, ROW_PARENT, ROW_PIN, ROW_RESISTANCE, ROW_SITE, SINK,
 };
-use rules::{Checking, Femtofarad, Femtosecond, Ohm, Pin, Refusal};
+use rules::{Femtofarad, Femtosecond, Net, Ohm, Pin, Refusal};
 
+#[tactic(auto, unfolding(crate::specs::Lines::wire_of))]
 fn wire_at(rows: &[u32], i: usize) -> Wire
     requires { (i < rows_room) × (words_a_row * i + words_a_row ≤ length rows.now) }
     ensures { result ≡ wire_of (get_or rows.now (words_a_row * i + row_parent) 0) (get_or rows.now (words_a_row * i + row_resistance) 0) (get_or rows.now (words_a_row * i + row_capacitance) 0) (get_or rows.now (words_a_row * i + row_site) 0) }
@@ -29,47 +30,28 @@ fn wire_at(rows: &[u32], i: usize) -> Wire
 }
 
 // A driver's line has a resistance and nothing else.
-fn check_driver_words(n: Passed, w: Wire, pin: u32, due: i64) -> Checking
+fn check_driver_words(n: Passed, w: Wire, pin: u32, due: i64) -> Result<(), Refusal>
     requires { FewPassed n }
     ensures { DriverChecked n w pin due result }
 {
-    let place = place_of(n);
-    if w.parent != 0 {
-        return Checking::Refused(Refusal::Form(place));
+    if w.parent != 0 || w.capacitance.0 != 0 || w.site != 0 || pin != 0 || due != 0 {
+        return Err(Refusal::Form(place_of(n)));
     }
-    let capacitance = w.capacitance.0;
-    if capacitance != 0 {
-        return Checking::Refused(Refusal::Form(place));
-    }
-    if w.site != 0 {
-        return Checking::Refused(Refusal::Form(place));
-    }
-    if pin != 0 {
-        return Checking::Refused(Refusal::Form(place));
-    }
-    if due != 0 {
-        return Checking::Refused(Refusal::Form(place));
-    }
-    let resistance = w.resistance;
-    check_driver(n, resistance)
+    check_driver(n, w.resistance)
 }
 
 // A plain point's line has no pin and no required time.
-fn check_point_words(rows: &[u32], n: Passed, w: Wire, pin: u32, due: i64) -> Checking
+fn check_point_words(rows: &[u32], n: Passed, w: Wire, pin: u32, due: i64) -> Result<(), Refusal>
     requires { FewPassed n × (words_a_row * n.rows ≤ length rows.now) }
     ensures { result ≡ words_check rows.now n point_kind w pin due }
 {
-    let place = place_of(n);
-    if pin != 0 {
-        return Checking::Refused(Refusal::Form(place));
-    }
-    if due != 0 {
-        return Checking::Refused(Refusal::Form(place));
+    if pin != 0 || due != 0 {
+        return Err(Refusal::Form(place_of(n)));
     }
     check_row(rows, n, w, wire_out(w))
 }
 
-fn check_sink_words(rows: &[u32], n: Passed, w: Wire, pin: u32, due: i64) -> Checking
+fn check_sink_words(rows: &[u32], n: Passed, w: Wire, pin: u32, due: i64) -> Result<(), Refusal>
     requires { FewPassed n × (words_a_row * n.rows ≤ length rows.now) }
     ensures { result ≡ words_check rows.now n sink_kind w pin due }
 {
@@ -81,29 +63,39 @@ fn check_sink_words(rows: &[u32], n: Passed, w: Wire, pin: u32, due: i64) -> Che
 }
 
 // A row's words, checked as the line that they state would be; no line is made of them, for speed.
-fn check_words(rows: &[u32], n: Passed, kind: u32, w: Wire, pin: u32, due: i64) -> Checking
+fn check_words(
+    rows: &[u32],
+    n: Passed,
+    kind: u32,
+    w: Wire,
+    pin: u32,
+    due: i64,
+) -> Result<(), Refusal>
     requires { FewPassed n × (words_a_row * n.rows ≤ length rows.now) }
     ensures { result ≡ words_check rows.now n kind w pin due }
 {
-    if kind == DRIVER {
-        return check_driver_words(n, w, pin, due);
+    match kind {
+        DRIVER => check_driver_words(n, w, pin, due),
+        POINT => check_point_words(rows, n, w, pin, due),
+        SINK => check_sink_words(rows, n, w, pin, due),
+        _ => Err(Refusal::Form(place_of(n))),
     }
-    if kind == POINT {
-        return check_point_words(rows, n, w, pin, due);
-    }
-    if kind == SINK {
-        return check_sink_words(rows, n, w, pin, due);
-    }
-    Checking::Refused(Refusal::Form(place_of(n)))
 }
 
 // Row i of the tables, checked after those that have passed.
-pub fn check_row_at(rows: &[u32], due: &[i64], n: Passed, i: usize) -> Checking
-    requires { (FewPassed n × (words_a_row * n.rows ≤ length rows.now)) × ((i < rows_room) × ((words_a_row * i + words_a_row ≤ length rows.now) × (i < length due.now))) }
-    ensures { result ≡ row_check rows.now due.now n i }
+pub fn check_row_at(net: &Net<'_>, n: Passed, i: usize) -> Result<(), Refusal>
+    requires { (FewPassed n × (words_a_row * n.rows ≤ length net.now.rows.now)) × ((i < rows_room) × ((words_a_row * i + words_a_row ≤ length net.now.rows.now) × (i < length net.now.due.now))) }
+    ensures { result ≡ row_check net.now.rows.now net.now.due.now n i }
 {
+    let rows = net.rows;
     let at = ROW_WORDS * i;
-    let time = due[i];
-    let wire = wire_at(rows, i);
-    check_words(rows, n, rows[at], wire, rows[at + ROW_PIN], time)
+    let time = net.due[i];
+    check_words(
+        rows,
+        n,
+        rows[at],
+        wire_at(rows, i),
+        rows[at + ROW_PIN],
+        time,
+    )
 }

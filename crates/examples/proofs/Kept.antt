@@ -1,15 +1,10 @@
 -- At net A each promise is kept by the paper's answer: what rules the stand-ins out is not a promise that nothing can keep. Assumes
 -- nothing.
-use Rattle.std.specs.Prelude.{◌≡◌, false, List, [], ◌∷◌, ℕ, zero, suc, ◌*◌, ◌/◌, ◌%◌, ◌^◌, ◌<◌, ltb, length, get_or}
+use Rattle.std.specs.Prelude.{◌≡◌, false, List, [], ◌∷◌, ℕ, zero, suc, ◌*◌, ◌/◌, ◌%◌, ◌^◌, ◌<◌, ltb, length, get_or, Ok}
 use Rattle.std.proofs.Math.Path.{refl, fun_ext}
 use Rattle.std.proofs.Common.{sym, ap, ◌∙◌, arith}
 use Rattle.std.proofs.Math.Nat.{zero-div, zero-mod, div-eq_of_lt, pow-le-pow_right}
 use Rattle.std.proofs.Math.IntN.{pos}
-use Rattle.rules.specs.declared.Reading.TheVariants.{Read}
-use Rattle.rules.specs.declared.Checking.TheVariants.{Accepted}
-use Rattle.rules.specs.declared.Slacking.TheVariants.{Slack}
-use Rattle.rules.specs.declared.Planning.TheVariants.{Planned as Plan}
-use Rattle.rules.specs.declared.Listing.TheVariants.{Listed}
 use Rattle.rules.specs.Lists.{written}
 use Rattle.rules.specs.Quantities.{list_room}
 use Rattle.rules.specs.Entries.{types_of, rows_of}
@@ -69,17 +64,17 @@ none-marked = fun_ext (λ j. none-at (j / 16) (j % 16))
 
 -- ---- the answers
 -- read_net: one type and three rows, in the tables
-pub read_kept : ReadPromise (bytes net_a) blank (Read 1 3) (tables_in net_a)
+pub read_kept : ReadPromise (bytes net_a) blank (Ok (record { types = 1; rows = 3 })) (tables_in net_a)
 unfolding ReadPromise tables_in read_figures bytes text_entries lines_of line_of lettered type_line driver_line point_line sink_line parted number more_digits signed types_of rows_of
 read_kept = rw text_a (refl, refl)
 
 -- check_net: accepted
-pub check-kept : CheckPromise (tabled (tables_in net_a) (counts_in net_a)) Accepted
+pub check-kept : CheckPromise (tabled (tables_in net_a) (counts_in net_a)) (Ok tt)
 unfolding CheckPromise check_figures
 check-kept = rw lends_a.taken refl
 
 -- slack_of: 430 and 20 without a repeater
-pub slack-kept : SlackPromise (tabled (tables_in net_a) (counts_in net_a)) (0 ∷ 0 ∷ 0 ∷ 0 ∷ []) (Slack (record { 0 = pos 430 }) (record { 0 = 20 }))
+pub slack-kept : SlackPromise (tabled (tables_in net_a) (counts_in net_a)) (0 ∷ 0 ∷ 0 ∷ 0 ∷ []) (Ok (record { slack = (record { 0 = pos 430 }); load = (record { 0 = 20 }) }))
 unfolding SlackPromise slack_figures
 slack-kept = rw (none_a, lends_a.whole) (record { slack = pos 430; load = 20 }, refl, record { tree = examples.P1.tree; tree_is = examples.P1.tree_is; slack = rw none-marked examples.P1.slack_is; load = rw none-marked examples.P1.load_is })
 
@@ -89,12 +84,12 @@ proper-A₁ = ((λ h. h), tt)
 
 module _ {W : Type 0} (s : Storage W) (work : W) (room : s.short work ≡ false) where
   -- plan_net: 687 and 7, type 1 at site 0
-  pub plan-kept : (before : List ℕ) → short_placement before ≡ false → PlanPromise s (tabled (tables_in net_a) (counts_in net_a)) (plan_areas before work) (Plan (record { 0 = pos 687 }) (record { 0 = 7 })) (plan_areas (written (1 ∷ 0 ∷ 0 ∷ 0 ∷ []) before) (s.cleared work))
+  pub plan-kept : (before : List ℕ) → short_placement before ≡ false → PlanPromise s (tabled (tables_in net_a) (counts_in net_a)) (plan_areas before work) (Ok (record { slack = (record { 0 = pos 687 }); load = (record { 0 = 7 }) })) (plan_areas (written (1 ∷ 0 ∷ 0 ∷ 0 ∷ []) before) (s.cleared work))
   unfolding PlanPromise plan_figures
   plan-kept before long = rw (plan-taken lends_a s work room before long, lends_a.whole) (record { slack = pos 687; load = 7 }, refl, record { tree = examples.P2.tree; tree_is = examples.P2.tree_is; words = 1 ∷ 0 ∷ 0 ∷ 0 ∷ []; four = refl; after_is = refl; planned = rw one-marked examples.P2.planned }, refl)
 
   -- list_at row 1: (2, 855), (15, 910)
-  pub list-kept : (before : Lent) → short_lent before ≡ false → ListPromise s (tabled (tables_in net_a) (counts_in net_a)) 1 (list_areas before work) (Listed 2) (list_areas (record { loads = written (2 ∷ 15 ∷ []) before.loads; times = written (pos 855 ∷ pos 910 ∷ []) before.times }) (s.cleared work))
+  pub list-kept : (before : Lent) → short_lent before ≡ false → ListPromise s (tabled (tables_in net_a) (counts_in net_a)) 1 (list_areas before work) (Ok 2) (list_areas (record { loads = written (2 ∷ 15 ∷ []) before.loads; times = written (pos 855 ∷ pos 910 ∷ []) before.times }) (s.cleared work))
   unfolding ListPromise list_figures
   list-kept before long = rw (list-taken lends_a s work room 1 before long rows_a, lends_a.whole) (
     2,
@@ -116,7 +111,7 @@ module _ {W : Type 0} (s : Storage W) (work : W) (room : s.short work ≡ false)
       l = examples.P3
 
   -- loads_at row 1: 2, 15
-  pub loads-kept : (before : List ℕ) → ltb (length before) list_room ≡ false → LoadsPromise s (tabled (tables_in net_a) (counts_in net_a)) 1 (loads_areas before work) (Listed 2) (loads_areas (written (2 ∷ 15 ∷ []) before) (s.cleared work))
+  pub loads-kept : (before : List ℕ) → ltb (length before) list_room ≡ false → LoadsPromise s (tabled (tables_in net_a) (counts_in net_a)) 1 (loads_areas before work) (Ok 2) (loads_areas (written (2 ∷ 15 ∷ []) before) (s.cleared work))
   unfolding LoadsPromise short_lent
   loads-kept before long = (written (pos 855 ∷ pos 910 ∷ []) unseen_times, list-kept (lent_of before unseen_times) (rw long refl))
 

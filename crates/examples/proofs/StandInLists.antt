@@ -1,14 +1,12 @@
 -- The stand-ins for a list, each ruled out by list_at's promise: only the best pair, an empty list, an invented length, and thinning at
 -- some rows with copying at the others. Assumes nothing.
-use Rattle.std.specs.Prelude.{◌≡◌, false, ◌||◌, List, [], ◌∷◌, map, ℕ, zero, suc, ◌<◌, leb}
+use Rattle.std.specs.Prelude.{◌≡◌, false, ◌||◌, List, [], ◌∷◌, map, ℕ, zero, suc, ◌<◌, leb, Result, Ok}
 use Rattle.std.proofs.Math.Path.{ap}
 use Rattle.std.proofs.Common.{◌∙◌, arith}
 use Rattle.std.proofs.Math.Option.{none, some}
 use Prim.Native.String.{String}
 use Rattle.std.proofs.Math.ListN.{length, get_or, get_or-append, get_or-map}
 use Rattle.std.proofs.lemmas.List.{length-map}
-use Rattle.rules.specs.declared.Listing.{Listing}
-use Rattle.rules.specs.declared.Listing.TheVariants.{Listed}
 use Rattle.rules.specs.Lists.{All, Any, written, nil, cons, here, there}
 use Rattle.rules.specs.Entries.{types_of, rows_of}
 use Rattle.rules.specs.Tables.{Tables, Counts, table_entries}
@@ -24,34 +22,35 @@ use Rattle.laws.specs.Settled.{one-tree}
 use Rattle.laws.specs.Figures.{list-figures}
 use Rattle.examples.specs.Examples.{net_a, net_b, types_by, wire_by, B₂, IsList, paired, beats-by, examples}
 use Rattle.examples.specs.Given.{tables_in, counts_in, Lends, done-same, list-given, list-taken, nets}
+use Rattle.rules.specs.declared.Refusal.{Refusal}
 use Rattle.examples.specs.StandInLists.{pair_at}
 open nets use {lends_a, lends_b, rows_a, rows_b}
 
 -- ---- only the best pair, an empty list, an invented length
 module _ {net : String} (lends : Lends net) {W : Type 0} (s : Storage W) (work work' : W) (room : s.short work ≡ false) (row : ℕ) (inside : leb (counts_in net).rows row ≡ false) (before after : Lent) (long : short_lent before ≡ false) where
   -- the list handed out is the row's, and nothing else
-  pub listed-exactly : (l : List Pair) (a : Listing) → IsList net row l → ListPromise s (tabled (tables_in net) (counts_in net)) row (list_areas before work) a (list_areas after work') → (a ≡ Listed (length l)) × (after.loads ≡ written (map (λ c. c.load) l) before.loads) × (after.times ≡ written (map (λ c. c.time) l) before.times)
+  pub listed-exactly : (l : List Pair) (a : Result ℕ Refusal) → IsList net row l → ListPromise s (tabled (tables_in net) (counts_in net)) row (list_areas before work) a (list_areas after work') → (a ≡ Ok (length l)) × (after.loads ≡ written (map (λ c. c.load) l) before.loads) × (after.times ≡ written (map (λ c. c.time) l) before.times)
   unfolding list_figures
   listed-exactly l a f p =
       let (len, e, g, w) = list-given (tables_in net) (counts_in net) s work row before a after work' (list-taken lends s work room row before long inside) p in
       of len e (rw lends.whole at g)
     where
-      of : (len : ℕ) → list_figures a ≡ done len → ListOf (entries net) row before after len → (a ≡ Listed (length l)) × (after.loads ≡ written (map (λ c. c.load) l) before.loads) × (after.times ≡ written (map (λ c. c.time) l) before.times)
+      of : (len : ℕ) → list_figures a ≡ done len → ListOf (entries net) row before after len → (a ≡ Ok (length l)) × (after.loads ≡ written (map (λ c. c.load) l) before.loads) × (after.times ≡ written (map (λ c. c.time) l) before.times)
       of len e g =
           let same : g.list ≡ l = unbeaten-unique (rw (one-tree g.tree_is f.tree_is) at g.unbeaten) f.unbeaten in
-          (list-figures a (Listed (length l)) (e ∙ ap done (g.long ∙ ap length same)), rw (← same) g.loads, rw (← same) g.times)
+          (list-figures a (Ok (length l)) (e ∙ ap done (g.long ∙ ap length same)), rw (← same) g.loads, rw (← same) g.times)
 
 module _ {W : Type 0} (s : Storage W) (work work' : W) (room : s.short work ≡ false) (before after : Lent) (long : short_lent before ≡ false) where
   -- the list at row 1 of net A has two pairs, whatever length is claimed
-  pub invented-length : (len : ℕ) → ¬ (len ≡ 2) → ¬ (ListPromise s (tabled (tables_in net_a) (counts_in net_a)) 1 (list_areas before work) (Listed len) (list_areas after work'))
-  invented-length len other p = let (e, l, t) = listed-exactly lends_a s work work' room 1 rows_a before after long (paired (2, 855) ∷ paired (15, 910) ∷ []) (Listed len) examples.P3 p in other (cc)
+  pub invented-length : (len : ℕ) → ¬ (len ≡ 2) → ¬ (ListPromise s (tabled (tables_in net_a) (counts_in net_a)) 1 (list_areas before work) (Ok len) (list_areas after work'))
+  invented-length len other p = let (e, l, t) = listed-exactly lends_a s work work' room 1 rows_a before after long (paired (2, 855) ∷ paired (15, 910) ∷ []) (Ok len) examples.P3 p in other (cc)
 
   -- so it is not empty
-  pub empty-list : ¬ (ListPromise s (tabled (tables_in net_a) (counts_in net_a)) 1 (list_areas before work) (Listed 0) (list_areas after work'))
+  pub empty-list : ¬ (ListPromise s (tabled (tables_in net_a) (counts_in net_a)) 1 (list_areas before work) (Ok 0) (list_areas after work'))
   empty-list = invented-length 0 (omega arith)
 
   -- nor one pair alone
-  pub only-the-best : ¬ (ListPromise s (tabled (tables_in net_a) (counts_in net_a)) 1 (list_areas before work) (Listed 1) (list_areas after work'))
+  pub only-the-best : ¬ (ListPromise s (tabled (tables_in net_a) (counts_in net_a)) 1 (list_areas before work) (Ok 1) (list_areas after work'))
   only-the-best = invented-length 1 (omega arith)
 
 -- ---- thinning at some rows and copying at the others
@@ -68,11 +67,11 @@ written_at : {A : Type 0} (f : Pair → A) (list : List Pair) (before after : Li
 unfolding written
 written_at f list before after i d e h = ap (λ l. get_or l i (f d)) e ∙ get_or-append (map f list) _ (f d) i (omega (arith, length-map list f)) ∙ get_or-map f list i d
 
-module _ (t : Tables) (n : Counts) {W : Type 0} (s : Storage W) (work work' : W) (row : ℕ) (before after : Lent) (taken : list_refusal (short_lent before || s.short work) (tabled t n) row ≡ none) (len : ℕ) (tree : Tree) (tree_is : at_row (rows_of (table_entries t n)) row ≡ some tree) (promise : ListPromise s (tabled t n) row (list_areas before work) (Listed len) (list_areas after work')) where
+module _ (t : Tables) (n : Counts) {W : Type 0} (s : Storage W) (work work' : W) (row : ℕ) (before after : Lent) (taken : list_refusal (short_lent before || s.short work) (tabled t n) row ≡ none) (len : ℕ) (tree : Tree) (tree_is : at_row (rows_of (table_entries t n)) row ≡ some tree) (promise : ListPromise s (tabled t n) row (list_areas before work) (Ok len) (list_areas after work')) where
   -- the unbeaten pairs stand in the areas
   stand : (list : List Pair) × Unbeaten (Reached (types_of (table_entries t n)) tree) list × (len ≡ length list) × ((i : ℕ) → i < length list → pair_at after i ≡ get_or list i (paired (0, 0)))
   unfolding list_figures pair_at
-  stand = let (m, e, f, w) = list-given t n s work row before (Listed len) after work' taken promise in (f.list, rw (one-tree f.tree_is tree_is) at f.unbeaten, done-same len m e ∙ f.long, λ i h. of m f i h)
+  stand = let (m, e, f, w) = list-given t n s work row before (Ok len) after work' taken promise in (f.list, rw (one-tree f.tree_is tree_is) at f.unbeaten, done-same len m e ∙ f.long, λ i h. of m f i h)
     where
       of : (m : ℕ) (f : ListOf (table_entries t n) row before after m) (i : ℕ) → i < length f.list → pair_at after i ≡ get_or f.list i (paired (0, 0))
       of m f i h = λ k. record { load = written_at (λ c. c.load) f.list before.loads after.loads i (paired (0, 0)) f.loads h k; time = written_at (λ c. c.time) f.list before.times after.times i (paired (0, 0)) f.times h k }
@@ -90,7 +89,7 @@ module _ (t : Tables) (n : Counts) {W : Type 0} (s : Storage W) (work work' : W)
   copied i h d = (handed_out i h).none d
 
 -- at row 1 of net B, a copy of what meets there keeps (20, 850), which (14, 850) beats
-pub copied-B : {W : Type 0} (s : Storage W) (work work' : W) → s.short work ≡ false → (before after : Lent) → short_lent before ≡ false → (len i : ℕ) → i < len → pair_at after i ≡ paired (20, 850) → ¬ (ListPromise s (tabled (tables_in net_b) (counts_in net_b)) 1 (list_areas before work) (Listed len) (list_areas after work'))
+pub copied-B : {W : Type 0} (s : Storage W) (work work' : W) → s.short work ≡ false → (before after : Lent) → short_lent before ≡ false → (len i : ℕ) → i < len → pair_at after i ≡ paired (20, 850) → ¬ (ListPromise s (tabled (tables_in net_b) (counts_in net_b)) 1 (list_areas before work) (Ok len) (list_areas after work'))
 copied-B s work work' room before after long len i h e p =
     copied (tables_in net_b) (counts_in net_b) s work work' 1 before after (list-taken lends_b s work room 1 before long rows_b) len l.tree (rw lends_b.whole l.tree_is) p i h (paired (14, 850)) (rw lends_b.whole (all_head l.unbeaten.reached)) (rw e (beats-by 14 850 20 850 (omega arith) (omega arith) (omega arith)))
   where

@@ -1,12 +1,9 @@
 -- What a promise says where nothing is refused, and nets lent as tables: a net's entries, as its text states them, written into blank
 -- tables of full room. Assumes nothing.
-use Rattle.std.specs.Prelude.{◌≡◌, refl, false, ◌||◌, List, [], ◌∷◌, ℕ, ◌*◌, leb, pos, length, replicate}
+use Rattle.std.specs.Prelude.{◌≡◌, refl, false, ◌||◌, List, [], ◌∷◌, ℕ, ◌*◌, leb, pos, length, replicate, Result}
 use Rattle.std.proofs.Common.{ap}
 use Rattle.std.proofs.Math.Option.{none, some, or_else}
 use Prim.Native.String.{String}
-use Rattle.rules.specs.declared.Planning.{Planning}
-use Rattle.rules.specs.declared.Listing.{Listing}
-use Rattle.rules.specs.declared.Slacking.{Slacking}
 use Rattle.rules.specs.Lists.{written}
 use Rattle.rules.specs.Quantities.{types_room, rows_room}
 use Rattle.rules.specs.Entries.{Repeater, types_of, rows_of, row_of, sites_of}
@@ -19,6 +16,8 @@ use Rattle.rules.specs.Net.{Tree, wire_of, hangs, at, at_row, driver_ohms}
 use Rattle.rules.specs.Placements.{marks, mark_in, marks_from, mark_refusal, placement_refusal}
 use Rattle.rules.specs.Promises.{slack_refusal, SlackPromise, TimingOf, PlanPromise, PlanOf, list_refusal, ListPromise, ListOf, net_refusal, tabled, texted}
 use Rattle.rules.specs.Areas.{Storage, short_placement, Lent, short_lent, list_areas, plan_areas}
+use Rattle.rules.specs.declared.Timed.{Timed}
+use Rattle.rules.specs.declared.Refusal.{Refusal}
 use Rattle.examples.specs.Examples.{net_a, net_a-strong, net_b, types_by, wire_by, A₀, A₁}
 
 -- ---- tables
@@ -82,18 +81,18 @@ done-same v w e = ap (λ f. f.values) e
 
 module _ (t : Tables) (n : Counts) where
   -- slack_of: a timing of the placement
-  pub slack-given : (words : List ℕ) (a : Slacking) → slack_refusal (tabled t n) words ≡ none → SlackPromise (tabled t n) words a → (v : Timing) × (slack_figures a ≡ done v) × TimingOf (table_entries t n) words v
+  pub slack-given : (words : List ℕ) (a : Result Timed Refusal) → slack_refusal (tabled t n) words ≡ none → SlackPromise (tabled t n) words a → (v : Timing) × (slack_figures a ≡ done v) × TimingOf (table_entries t n) words v
   unfolding SlackPromise
   slack-given words a e p = rw e at p
 
   module _ {W : Type 0} (s : Storage W) (work : W) where
     -- plan_net: a planned placement, and the work area cleared
-    pub plan-given : (before : List ℕ) (a : Planning) (after : List ℕ) (work' : W) → net_refusal (short_placement before || s.short work) (tabled t n) ≡ none → PlanPromise s (tabled t n) (plan_areas before work) a (plan_areas after work') → (v : Timing) × (plan_figures a ≡ done v) × PlanOf (table_entries t n) before after v × (work' ≡ s.cleared work)
+    pub plan-given : (before : List ℕ) (a : Result Timed Refusal) (after : List ℕ) (work' : W) → net_refusal (short_placement before || s.short work) (tabled t n) ≡ none → PlanPromise s (tabled t n) (plan_areas before work) a (plan_areas after work') → (v : Timing) × (plan_figures a ≡ done v) × PlanOf (table_entries t n) before after v × (work' ≡ s.cleared work)
     unfolding PlanPromise
     plan-given before a after work' e p = rw e at p
 
     -- list_at: the row's list, and the work area cleared
-    pub list-given : (row : ℕ) (before : Lent) (a : Listing) (after : Lent) (work' : W) → list_refusal (short_lent before || s.short work) (tabled t n) row ≡ none → ListPromise s (tabled t n) row (list_areas before work) a (list_areas after work') → (len : ℕ) × (list_figures a ≡ done len) × ListOf (table_entries t n) row before after len × (work' ≡ s.cleared work)
+    pub list-given : (row : ℕ) (before : Lent) (a : Result ℕ Refusal) (after : Lent) (work' : W) → list_refusal (short_lent before || s.short work) (tabled t n) row ≡ none → ListPromise s (tabled t n) row (list_areas before work) a (list_areas after work') → (len : ℕ) × (list_figures a ≡ done len) × ListOf (table_entries t n) row before after len × (work' ≡ s.cleared work)
     unfolding ListPromise
     list-given row before a after work' e p = rw e at p
 

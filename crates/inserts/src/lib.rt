@@ -14,55 +14,7 @@ ghost use Rattle.columns.specs.Made.{Room};
 ghost use Rattle.inserts.specs.Gaps.{Grows, Fills, Thins};
 
 use columns::{cells, moves};
-use rules::{Femtofarad, Femtosecond};
-
-// Where nothing is dropped and there is no room before the list, what comes after the new one moves up; how far.
-pub fn grow(
-    loads: &mut [u32],
-    times: &mut [i64],
-    words: &mut [u64],
-    at: usize,
-    start: usize,
-    p: usize,
-    q: usize,
-    end: usize,
-    by: usize,
-) -> usize
-    requires room { Room loads.old times.old words.old }
-    requires at_le_start { (at ≤ start) × ((start ≤ p) × ((p ≤ q) × (q ≤ end))) }
-    requires le_by { (1 ≤ by) × (end + by + at ≤ work_room + start) }
-    ensures { Grows (run loads.old times.old words.old) (run loads.new times.new words.new) at start p q end by result }
-{
-    if p < q {
-        return 0;
-    }
-    if at < start {
-        return 0;
-    }
-    moves::move_up(loads, times, words, q, q + by, end - q);
-    by
-}
-
-// The candidate at `from` put right before q, and what stands from `start` to p right before it; where the list starts now.
-pub fn fill(
-    loads: &mut [u32],
-    times: &mut [i64],
-    words: &mut [u64],
-    from: usize,
-    start: usize,
-    p: usize,
-    q: usize,
-) -> usize
-    requires room { Room loads.old times.old words.old }
-    requires start_le_p { (start ≤ p) × ((p < q + start) × ((p ≤ q) × ((q ≤ from) × (from < work_room)))) }
-    ensures { Fills (run loads.old times.old words.old) (run loads.new times.new words.new) from start p q result }
-{
-    let k = p - start;
-    let to = q - 1 - k;
-    moves::move_list(loads, times, words, start, to, k);
-    cells::copy_at(loads, times, words, from, q - 1);
-    to
-}
+use gaps::Gap;
 
 // Where a list starts and ends.
 #[derive(Clone, Copy)]
@@ -71,37 +23,90 @@ pub struct Bounds {
     pub end: usize,
 }
 
-// The candidate at `from` put into the list from `start` to `end`, which may go down to `at`, and up by `by` where it must.
+// Where nothing is dropped and there is no room before the list, what comes after the new one moves up; how far.
+pub fn grow(
+    loads: &mut [u32],
+    times: &mut [i64],
+    words: &mut [u64],
+    at: usize,
+    list: Bounds,
+    gap: Gap,
+    by: usize,
+) -> usize
+    requires room { Room loads.old times.old words.old }
+    requires at_le_start { (at ≤ list.start) × ((list.start ≤ gap.from) × ((gap.from ≤ gap.past) × (gap.past ≤ list.end))) }
+    requires le_by { (1 ≤ by) × (list.end + by + at ≤ work_room + list.start) }
+    ensures { Grows (run loads.old times.old words.old) (run loads.new times.new words.new) at list.start gap.from gap.past list.end by result }
+{
+    if gap.from < gap.past || at < list.start {
+        return 0;
+    }
+    moves::move_up(
+        loads,
+        times,
+        words,
+        gap.past,
+        gap.past + by,
+        list.end - gap.past,
+    );
+    by
+}
+
+// The candidate at `from` put right before the end of the gap, and what stands from `start` to the gap right before it; where the list
+// starts now.
+pub fn fill(
+    loads: &mut [u32],
+    times: &mut [i64],
+    words: &mut [u64],
+    from: usize,
+    start: usize,
+    gap: Gap,
+) -> usize
+    requires room { Room loads.old times.old words.old }
+    requires start_le_p { (start ≤ gap.from) × ((gap.from < gap.past + start) × ((gap.from ≤ gap.past) × ((gap.past ≤ from) × (from < work_room)))) }
+    ensures { Fills (run loads.old times.old words.old) (run loads.new times.new words.new) from start gap.from gap.past result }
+{
+    let k = gap.from - start;
+    let to = gap.past - 1 - k;
+    moves::move_list(loads, times, words, start, to, k);
+    cells::copy_at(loads, times, words, from, gap.past - 1);
+    to
+}
+
+// The candidate at `from` put into a list, which may go down to `at`, and up by `by` where it must.
 pub fn put_in(
     loads: &mut [u32],
     times: &mut [i64],
     words: &mut [u64],
     from: usize,
     at: usize,
-    start: usize,
-    end: usize,
+    list: Bounds,
     by: usize,
 ) -> Bounds
     requires room { Room loads.old times.old words.old }
-    requires at_le_start { (at ≤ start) × ((start < end) × ((1 ≤ by) × ((end + by + at ≤ from + start) × ((end ≤ from) × (from < work_room))))) }
-    requires every_two { EveryTwo Below (part start end (run loads.old times.old words.old)) }
-    ensures { Thins (run loads.old times.old words.old) (run loads.new times.new words.new) from at start end by result.start result.end }
+    requires at_le_start { (at ≤ list.start) × ((list.start < list.end) × ((1 ≤ by) × ((list.end + by + at ≤ from + list.start) × ((list.end ≤ from) × (from < work_room))))) }
+    requires every_two { EveryTwo Below (part list.start list.end (run loads.old times.old words.old)) }
+    ensures { Thins (run loads.old times.old words.old) (run loads.new times.new words.new) from at list.start list.end by result.start result.end }
 {
-    let load = Femtofarad(loads[from]);
-    let time = Femtosecond(times[from]);
-    let gap = gaps::gap_from(loads, times, start, end, load, time);
-    let p = gap.from;
-    let q = gap.past;
-    if gap.covered {
-        return Bounds {
-            start: start,
-            end: end,
-        };
-    }
-    let up = grow(loads, times, words, at, start, p, q, end, by);
-    let to = fill(loads, times, words, from, start, p, q + up);
+    let new = cells::pair_at(loads, times, from);
+    let Some(gap) = gaps::gap_from(loads, times, list, new) else {
+        return list;
+    };
+    let up = grow(loads, times, words, at, list, gap, by);
+    let past = gap.past + up;
+    let start = fill(
+        loads,
+        times,
+        words,
+        from,
+        list.start,
+        Gap {
+            from: gap.from,
+            past,
+        },
+    );
     Bounds {
-        start: to,
-        end: end + up,
+        start,
+        end: list.end + up,
     }
 }

@@ -2,6 +2,7 @@
 use Rattle.std.specs.Prelude.{◌≡◌, Bool, false, cond, List, ℕ, ◌+◌, ◌*◌, ◌≤◌, ◌<◌, ltb, ℤ, length, get_or, replicate}
 use Rattle.rules.specs.declared.Kind.{Kind}
 use Rattle.rules.specs.declared.Kind.TheVariants.{Driver, Point, Sink}
+use Rattle.rules.specs.declared.Net.{Net}
 use Rattle.rules.specs.declared.Row.{Row}
 use Rattle.rules.specs.Quantities.{rows_room}
 use Rattle.rules.specs.Refusals.{is_sink}
@@ -41,6 +42,10 @@ site_job x k count at own = record { step = 0; steps = cond x.site count 0 + con
 abbrev pub hang_job : Row → (both : Bool) (at later own : ℕ) → Job
 hang_job x both at later own = record { step = 1; steps = cond both 4 2; low = at; later = later; own = own; made = 0; count = 0; site = 0; sink = false; pin = zeros; resistance = x.resistance; capacitance = x.capacitance; best = replicate 4 zeros }
 
+-- no pass to make yet
+abbrev pub begun : Row → (at own : ℕ) → Job
+begun x at own = record { step = 0; steps = 0; low = at; later = 0; own = own; made = 0; count = 0; site = 0; sink = false; pin = zeros; resistance = x.resistance; capacitance = x.capacitance; best = replicate 4 zeros }
+
 -- ---- of a row in its tables
 pub record RowIn (rows : List ℕ) (due : List ℤ) (links : List ℕ) (c : ℕ) : Type 0 where
   pub few : c < rows_room
@@ -54,3 +59,13 @@ site_at rows due links count c at own = site_job (row_at rows due c) (get_or lin
 -- a list waits where there is a later row
 abbrev pub hang_at : (rows : List ℕ) (due : List ℤ) (links : List ℕ) (n c at later own : ℕ) → Job
 hang_at rows due links n c at later own = hang_job (row_at rows due c) (ltb (get_or links (next_at + c) 0) n) at later own
+
+-- ---- of a net that is handed as one
+abbrev pub RowOf : Net → (links : List ℕ) (c : ℕ) → Type 0
+RowOf net links c = RowIn net.rows.now net.due.now links c
+
+abbrev pub site_in : Net → (links : List ℕ) (c at own : ℕ) → Job
+site_in net links c at own = site_at net.rows.now net.due.now links net.type_count c at own
+
+abbrev pub hang_in : Net → (links : List ℕ) (c at later own : ℕ) → Job
+hang_in net links c at later own = hang_at net.rows.now net.due.now links net.row_count c at later own

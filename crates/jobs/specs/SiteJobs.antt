@@ -1,9 +1,8 @@
 -- The list at a row, made by passes: its pin or what hangs under it, the best behind each type chosen, and each put in. Assumes nothing.
 use Rattle.std.specs.Prelude.{◌≡◌, Bool, cond, List, [], ◌∷◌, ℕ, suc, ◌+◌, ◌-◌, ◌≤◌, ◌<◌, length, get_or, set, replicate}
 use Rattle.std.proofs.Math.Path.{refl, fun_ext}
-use Rattle.std.proofs.Common.{sym, ap, ap₂, ◌∙◌, add-one, length-set, get_or-set_same, get_or-set_other}
+use Rattle.std.proofs.Common.{sym, ap, ap₂, ◌∙◌, add-one, length-set, get_or-set_same, get_or-set_other, arith}
 use Rattle.std.proofs.Math.Bool.{true, false}
-use native.Mathlib.Omega.{arith}
 use Rattle.std.proofs.Math.Decide.{dec_lt}
 use Rattle.std.proofs.Math.IntN.{pos}
 use borrow.Author.Tests.{lt-ltb, le-ltb}

@@ -10,31 +10,25 @@ ghost use Rattle.laws.specs.Tabled.{kind_of};
 use rooms::words::{DRIVER, POINT};
 use rules::{Femtofarad, Femtosecond, Kind, Pin};
 
-// Neither a driver's nor a plain point's number is a sink's.
+// The numbers are the words that C lends. Neither a driver's nor a plain point's is a sink's.
 #[tactic(auto, unfolding(laws::specs::Tabled::kind_of))]
 pub fn kind_of(kind: u32, pin: u32, due: i64) -> Kind
     ensures { result ≡ kind_of kind pin due }
 {
-    if kind == DRIVER {
-        return Kind::Driver;
+    match kind {
+        DRIVER => Kind::Driver,
+        POINT => Kind::Point,
+        _ => Kind::Sink(Pin {
+            load: Femtofarad(pin),
+            due: Femtosecond(due),
+        }),
     }
-    if kind == POINT {
-        return Kind::Point;
-    }
-    Kind::Sink(Pin {
-        load: Femtofarad(pin),
-        due: Femtosecond(due),
-    })
 }
 
 pub fn is_sink(kind: Kind) -> bool
     ensures { result ≡ is_sink kind }
 {
-    match kind {
-        Kind::Driver => false,
-        Kind::Point => false,
-        Kind::Sink(pin) => true,
-    }
+    matches!(kind, Kind::Sink(_))
 }
 
 // The number of the next site, after a row that has one or none.
@@ -42,8 +36,5 @@ pub fn next_site(site: bool, k: usize) -> usize
     requires { k ≤ rows_room }
     ensures { result ≡ k + site_count site }
 {
-    if site {
-        return k + 1;
-    }
-    k
+    k + usize::from(site)
 }

@@ -1,8 +1,7 @@
 -- Each of the eleven exported calls is settled: two results that its promise allows, what is returned and every lent word, are equal. One
 -- theorem says it of any entry that is settled. Assumes nothing.
-use Rattle.std.specs.Prelude.{◌≡◌, Bool, true, false, List, ℕ, ltb, ℤ, length}
+use Rattle.std.specs.Prelude.{◌≡◌, Bool, true, false, List, ℕ, ltb, ℤ, length, Result}
 use Rattle.std.proofs.Common.{sym, ap, ◌∙◌}
-use Rattle.rules.specs.declared.Planning.{Planning}
 use Rattle.rules.specs.Tables.{Tables}
 use Rattle.rules.specs.Areas.{Storage, PlanAreas, ListAreas, LoadsAreas}
 use Rattle.rules.specs.Answers.{Figures, read_figures, check_figures, slack_figures, plan_figures, list_figures}
@@ -10,6 +9,8 @@ use Rattle.rules.specs.Promises.{Handed, ReadPromise, CheckPromise, CountPromise
 use Rattle.rules.specs.Calls.{answer_room, count_words, no_words, timing_words, length_words, Crossed, Lending, Called, refuses, answers, Call, ReadCall, CheckCall, CountCall, SlackCall, PlanCall, ListCall, LoadsCall}
 use Rattle.laws.specs.Settled.{read-settled, check-settled, count-settled, slack-settled, list-settled, loads-settled}
 use Rattle.laws.specs.Picked.{Picks, Words64}
+use Rattle.rules.specs.declared.Timed.{Timed}
+use Rattle.rules.specs.declared.Refusal.{Refusal}
 use Rattle.laws.proofs.Picked.{plan-settled}
 
 -- an answer crosses in one way
@@ -65,7 +66,7 @@ pub plan-call-settled : {W : Type 0} (s : Storage W) (net : Handed) (before : Le
     → Words64 x.areas.placement → Words64 y.areas.placement → (r ≡ q) × (x ≡ y)
 plan-call-settled {W} s net before r q x y c d f g h k = both-called (ltb (length before.answer) answer_room) (λ (p, e) (p', e'). (p ∙ sym p', e ∙ sym e')) answered c d
   where
-    answered : (a : Planning) × PlanPromise s net before.areas a x.areas × Crossed timing_words (plan_figures a) before.answer x.answer r → (b : Planning) × PlanPromise s net before.areas b y.areas × Crossed timing_words (plan_figures b) before.answer y.answer q → (r ≡ q) × (x ≡ y)
+    answered : (a : Result Timed Refusal) × PlanPromise s net before.areas a x.areas × Crossed timing_words (plan_figures a) before.answer x.answer r → (b : Result Timed Refusal) × PlanPromise s net before.areas b y.areas × Crossed timing_words (plan_figures b) before.answer y.answer q → (r ≡ q) × (x ≡ y)
     answered (a, p, i) (b, p', j) =
         let (e, m) = plan-settled s net before.areas a b x.areas y.areas p p' (λ z. f (i.number_is ∙ z)) (λ z. g (j.number_is ∙ z)) h k in
         let (u, v) = crossed-same (ap plan_figures e) i j in

@@ -1,9 +1,7 @@
 -- What is true of the placement that is picked: it is as good as any, and the clause that names it leaves nothing of planning open, neither
 -- the answer nor a lent word. Assumes nothing.
-use Rattle.std.specs.Prelude.{◌≡◌, List, [], ◌∷◌, ◌++◌, ℕ, ◌*◌, ◌^◌, ◌<◌, ℤ}
+use Rattle.std.specs.Prelude.{◌≡◌, List, [], ◌∷◌, ◌++◌, ℕ, ◌*◌, ◌^◌, ◌<◌, ℤ, Result, Err}
 use Rattle.std.proofs.Common.{sym, ap, ◌∙◌, ⊎_elim, arith}
-use Rattle.rules.specs.declared.Planning.{Planning}
-use Rattle.rules.specs.declared.Planning.TheVariants.{Refused}
 use Rattle.rules.specs.declared.Refusal.{Refusal}
 use Rattle.rules.specs.Lists.{All, nil, cons, written}
 use Rattle.rules.specs.Entries.{Entry, Repeater, types_of, rows_of}
@@ -19,6 +17,7 @@ use Rattle.laws.proofs.Method.{method}
 use Rattle.laws.specs.Settled.{one-tree, plan-alike}
 use Rattle.laws.specs.Words.{same-words}
 use Rattle.laws.specs.Checked.{numbered}
+use Rattle.rules.specs.declared.Timed.{Timed}
 use Rattle.laws.specs.Picked.{pick_in, pick_of, PickedOf, Picks, Words64}
 
 -- it is as good as any
@@ -49,7 +48,7 @@ picked-settled es before x y f g h k =
 
 -- ---- planning, settled
 -- a refusal picks nothing
-pub refused-picks : (es : List Entry) (before after : List ℕ) (r : Refusal) → Picks es before after (plan_figures (Refused r)).number
+pub refused-picks : (es : List Entry) (before after : List ℕ) (r : Refusal) → Picks es before after (plan_figures (Err r)).number
 unfolding plan_figures refused
 refused-picks es before after r e = absurd (omega (arith, numbered r, e))
 
@@ -58,7 +57,7 @@ pub numbered-picks : (es : List Entry) (before after : List ℕ) {number : ℕ} 
 numbered-picks es before after h e = absurd (omega (arith, h, e))
 
 -- with the clause a net and the lent areas settle the answer of planning and every lent word after
-pub plan-settled : {W : Type 0} (s : Storage W) (net : Handed) (before : PlanAreas W) (a b : Planning) (x y : PlanAreas W)
+pub plan-settled : {W : Type 0} (s : Storage W) (net : Handed) (before : PlanAreas W) (a b : Result Timed Refusal) (x y : PlanAreas W)
     → PlanPromise s net before a x → PlanPromise s net before b y
     → Picks net.entries before.placement x.placement (plan_figures a).number → Picks net.entries before.placement y.placement (plan_figures b).number
     → Words64 x.placement → Words64 y.placement → (a ≡ b) × (x ≡ y)
@@ -68,5 +67,5 @@ plan-settled {W} s net before a b x y p q f g h k =
     let e : x.placement ≡ y.placement = ⊎_elim (λ e. e) (λ (timing, d, m, n). picked-settled net.entries before.placement x.placement y.placement (f (told a timing d)) (g (told b timing (ap plan_figures (sym S.answer) ∙ d))) h k) S.words in
     (S.answer, λ i. record { placement = e i; work = S.work i })
   where
-    told : (c : Planning) (timing : Timing) → plan_figures c ≡ done timing → (plan_figures c).number ≡ 0
+    told : (c : Result Timed Refusal) (timing : Timing) → plan_figures c ≡ done timing → (plan_figures c).number ≡ 0
     told c timing d = ap (λ (v : Figures Timing). v.number) d

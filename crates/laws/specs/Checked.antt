@@ -1,11 +1,9 @@
 -- What the answer of a check of tables says, by its promise alone: what was refused, or that nothing is. Assumes nothing.
-use Rattle.std.specs.Prelude.{◌≡◌, Bool, ◌||◌, ◌<◌}
+use Rattle.std.specs.Prelude.{◌≡◌, Bool, ◌||◌, ◌<◌, Result, Ok, Err}
 use Rattle.std.proofs.Math.Path.{refl}
 use Rattle.std.proofs.Common.{ap, ◌∙◌, arith}
 use Rattle.std.proofs.Math.Bool.{true, false}
 use Rattle.std.proofs.Math.Option.{Option, none, some, some-ne-none, or_else}
-use Rattle.rules.specs.declared.Checking.{Checking}
-use Rattle.rules.specs.declared.Checking.TheVariants.{Accepted, Refused}
 use Rattle.rules.specs.declared.Refusal.{Refusal}
 use Rattle.rules.specs.declared.Refusal.TheVariants.{Form, Range, Room, Parent, Childless, Mark, Short, NoRow}
 use Rattle.rules.specs.Lists.{given_when}
@@ -31,21 +29,21 @@ numbered (Mark line) = omega arith
 numbered Short = omega arith
 numbered NoRow = omega arith
 
-module _ (t : Tables) (n : Counts) (checked : Checking) (p : CheckPromise (tabled t n) checked) where
+module _ (t : Tables) (n : Counts) (checked : Result (Unit {0}) Refusal) (p : CheckPromise (tabled t n) checked) where
   -- what the check refused is what the list says
-  pub checked-stopped : (r : Refusal) → checked ≡ Refused r → net_refusal false (tabled t n) ≡ some r
+  pub checked-stopped : (r : Refusal) → checked ≡ Err r → net_refusal false (tabled t n) ≡ some r
   unfolding CheckPromise check_figures refused done
   checked-stopped r f = go (net_refusal false (tabled t n)) refl (rw f at p)
     where
-      same : (s : Refusal) → check_figures (Refused r) ≡ check_figures (Refused s) → some s ≡ some r
-      same s e = let q = check-figures (Refused r) (Refused s) e in cc
+      same : (s : Refusal) → check_figures (Err r) ≡ check_figures (Err s) → some s ≡ some r
+      same s e = let q = check-figures (Err r) (Err s) e in cc
 
-      go : (o : Option Refusal) → net_refusal false (tabled t n) ≡ o → Settled o (λ s. check_figures (Refused r) ≡ refused tt s) (check_figures (Refused r) ≡ done tt) → net_refusal false (tabled t n) ≡ some r
+      go : (o : Option Refusal) → net_refusal false (tabled t n) ≡ o → Settled o (λ s. check_figures (Err r) ≡ refused tt s) (check_figures (Err r) ≡ done tt) → net_refusal false (tabled t n) ≡ some r
       go none g q = absurd (let z : number_of r ≡ 0 = ap (λ v. v.number) q in omega (arith, numbered r))
       go (some s) g q = g ∙ same s q
 
   -- what it accepted is not refused
-  pub checked-passed : checked ≡ Accepted → Passed t n
+  pub checked-passed : checked ≡ Ok tt → Passed t n
   unfolding CheckPromise check_figures refused done net_refusal refusal_of or_else
   checked-passed f = go (net_refusal false (tabled t n)) refl (rw f at p)
     where
@@ -53,7 +51,7 @@ module _ (t : Tables) (n : Counts) (checked : Checking) (p : CheckPromise (table
       passes true e = absurd (some-ne-none Short e)
       passes false e = (refl, e)
 
-      go : (o : Option Refusal) → net_refusal false (tabled t n) ≡ o → Settled o (λ s. check_figures Accepted ≡ refused tt s) (check_figures Accepted ≡ done tt) → Passed t n
+      go : (o : Option Refusal) → net_refusal false (tabled t n) ≡ o → Settled o (λ s. check_figures (Ok tt) ≡ refused tt s) (check_figures (Ok tt) ≡ done tt) → Passed t n
       go (some s) g q = absurd (let z : 0 ≡ number_of s = ap (λ v. v.number) q in omega (arith, numbered s))
       go none g q = let (a, b) = passes (short_tables t) g in record { long = a; accepted = b }
 

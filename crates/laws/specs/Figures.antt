@@ -1,26 +1,13 @@
 -- The paper's figures determine the answer: a number and a place name one refusal, and no two answers of an entry have the same
 -- figures. Assumes nothing.
-use Rattle.std.specs.Prelude.{◌≡◌, [], ◌∷◌, ℕ, zero, suc, get_or}
+use Rattle.std.specs.Prelude.{◌≡◌, [], ◌∷◌, ℕ, zero, suc, get_or, Result, Ok, Err}
 use Rattle.std.proofs.Math.Path.{refl, ap}
 use Rattle.std.proofs.Common.{sym, ap₂, ◌∙◌}
 use Rattle.rules.specs.declared.Refusal.{Refusal}
 use Rattle.rules.specs.declared.Refusal.TheVariants.{Form, Range, Room, Parent, Childless, Mark, Short, NoRow}
-use Rattle.rules.specs.declared.Reading.{Reading}
-use Rattle.rules.specs.declared.Reading.TheVariants.{Read}
-use Rattle.rules.specs.declared.Reading.TheVariants.{Refused as NotRead}
-use Rattle.rules.specs.declared.Checking.{Checking}
-use Rattle.rules.specs.declared.Checking.TheVariants.{Accepted}
-use Rattle.rules.specs.declared.Checking.TheVariants.{Refused as NotAccepted}
-use Rattle.rules.specs.declared.Slacking.{Slacking}
-use Rattle.rules.specs.declared.Slacking.TheVariants.{Slack}
-use Rattle.rules.specs.declared.Slacking.TheVariants.{Refused as NoSlack}
-use Rattle.rules.specs.declared.Planning.{Planning}
-use Rattle.rules.specs.declared.Planning.TheVariants.{Planned}
-use Rattle.rules.specs.declared.Planning.TheVariants.{Refused as NotPlanned}
-use Rattle.rules.specs.declared.Listing.{Listing}
-use Rattle.rules.specs.declared.Listing.TheVariants.{Listed}
-use Rattle.rules.specs.declared.Listing.TheVariants.{Refused as NotListed}
 use Rattle.rules.specs.Refusals.{number_of, place_of}
+use Rattle.rules.specs.declared.Counted.{Counted}
+use Rattle.rules.specs.declared.Timed.{Timed}
 use Rattle.rules.specs.Answers.{Figures, refused, done, read_figures, check_figures, slack_figures, plan_figures, list_figures}
 
 -- the refusal of a number and a place
@@ -76,46 +63,46 @@ module _ {A B : Type 0} (success : B → A) (refusal : Refusal → A) where
   figures-settle figures back a b e = sym (back a) ∙ ap answer_by e ∙ back b
 
 -- no two answers of read_net have the same figures
-pub read-figures : (a b : Reading) → read_figures a ≡ read_figures b → a ≡ b
+pub read-figures : (a b : Result Counted Refusal) → read_figures a ≡ read_figures b → a ≡ b
 unfolding read_figures
-read-figures = figures-settle (λ v. Read v.types v.rows) NotRead read_figures back
+read-figures = figures-settle (λ v. Ok (record { types = v.types; rows = v.rows })) Err read_figures back
   where
-    back : (a : Reading) → answer_by (λ v. Read v.types v.rows) NotRead (read_figures a) ≡ a
-    back (Read types rows) = done-back _ _ _
-    back (NotRead r) = refused-back _ _ _ r
+    back : (a : Result Counted Refusal) → answer_by (λ v. Ok (record { types = v.types; rows = v.rows })) Err (read_figures a) ≡ a
+    back (Ok v) = done-back _ _ _
+    back (Err r) = refused-back _ _ _ r
 
 -- nor of check_net
-pub check-figures : (a b : Checking) → check_figures a ≡ check_figures b → a ≡ b
+pub check-figures : (a b : Result (Unit {0}) Refusal) → check_figures a ≡ check_figures b → a ≡ b
 unfolding check_figures
-check-figures = figures-settle (λ v. Accepted) NotAccepted check_figures back
+check-figures = figures-settle (λ v. (Ok tt)) Err check_figures back
   where
-    back : (a : Checking) → answer_by (λ (v : Unit {0}). Accepted) NotAccepted (check_figures a) ≡ a
-    back Accepted = done-back _ _ _
-    back (NotAccepted r) = refused-back _ _ _ r
+    back : (a : Result (Unit {0}) Refusal) → answer_by (λ (v : Unit {0}). (Ok tt)) Err (check_figures a) ≡ a
+    back (Ok v) = done-back _ _ _
+    back (Err r) = refused-back _ _ _ r
 
 -- nor of slack_of
-pub slack-figures : (a b : Slacking) → slack_figures a ≡ slack_figures b → a ≡ b
+pub slack-figures : (a b : Result Timed Refusal) → slack_figures a ≡ slack_figures b → a ≡ b
 unfolding slack_figures
-slack-figures = figures-settle (λ v. Slack (record { 0 = v.slack }) (record { 0 = v.load })) NoSlack slack_figures back
+slack-figures = figures-settle (λ v. Ok (record { slack = (record { 0 = v.slack }); load = (record { 0 = v.load }) })) Err slack_figures back
   where
-    back : (a : Slacking) → answer_by (λ v. Slack (record { 0 = v.slack }) (record { 0 = v.load })) NoSlack (slack_figures a) ≡ a
-    back (Slack slack load) = done-back _ _ _
-    back (NoSlack r) = refused-back _ _ _ r
+    back : (a : Result Timed Refusal) → answer_by (λ v. Ok (record { slack = (record { 0 = v.slack }); load = (record { 0 = v.load }) })) Err (slack_figures a) ≡ a
+    back (Ok v) = done-back _ _ _
+    back (Err r) = refused-back _ _ _ r
 
 -- nor of plan_net
-pub plan-figures : (a b : Planning) → plan_figures a ≡ plan_figures b → a ≡ b
+pub plan-figures : (a b : Result Timed Refusal) → plan_figures a ≡ plan_figures b → a ≡ b
 unfolding plan_figures
-plan-figures = figures-settle (λ v. Planned (record { 0 = v.slack }) (record { 0 = v.load })) NotPlanned plan_figures back
+plan-figures = figures-settle (λ v. Ok (record { slack = (record { 0 = v.slack }); load = (record { 0 = v.load }) })) Err plan_figures back
   where
-    back : (a : Planning) → answer_by (λ v. Planned (record { 0 = v.slack }) (record { 0 = v.load })) NotPlanned (plan_figures a) ≡ a
-    back (Planned slack load) = done-back _ _ _
-    back (NotPlanned r) = refused-back _ _ _ r
+    back : (a : Result Timed Refusal) → answer_by (λ v. Ok (record { slack = (record { 0 = v.slack }); load = (record { 0 = v.load }) })) Err (plan_figures a) ≡ a
+    back (Ok v) = done-back _ _ _
+    back (Err r) = refused-back _ _ _ r
 
 -- nor of list_at
-pub list-figures : (a b : Listing) → list_figures a ≡ list_figures b → a ≡ b
+pub list-figures : (a b : Result ℕ Refusal) → list_figures a ≡ list_figures b → a ≡ b
 unfolding list_figures
-list-figures = figures-settle Listed NotListed list_figures back
+list-figures = figures-settle Ok Err list_figures back
   where
-    back : (a : Listing) → answer_by Listed NotListed (list_figures a) ≡ a
-    back (Listed length) = done-back _ _ _
-    back (NotListed r) = refused-back _ _ _ r
+    back : (a : Result ℕ Refusal) → answer_by Ok Err (list_figures a) ≡ a
+    back (Ok length) = done-back _ _ _
+    back (Err r) = refused-back _ _ _ r

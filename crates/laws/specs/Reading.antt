@@ -1,10 +1,8 @@
 -- Reading a text, by its promise alone: it was refused and the tables are as they were, or the tables read from it state the net that the
 -- text states and are accepted as it is. Assumes nothing.
-use Rattle.std.specs.Prelude.{◌≡◌, refl, false, List, ◌++◌, ℕ, ◌*◌, ltb, length, drop}
+use Rattle.std.specs.Prelude.{◌≡◌, refl, false, List, ◌++◌, ℕ, ◌*◌, ltb, length, drop, Result, Ok, Err}
 use Rattle.std.proofs.Common.{sym, ap, ◌∙◌, arith, length-append, length-drop, le-ltb, ltb-false}
 use Rattle.std.proofs.Math.Option.{Option, none, some, or_else}
-use Rattle.rules.specs.declared.Reading.{Reading}
-use Rattle.rules.specs.declared.Reading.TheVariants.{Read, Refused}
 use Rattle.rules.specs.declared.Refusal.{Refusal}
 use Rattle.rules.specs.declared.Refusal.TheVariants.{Room, Short}
 use Rattle.rules.specs.Lists.{written}
@@ -18,6 +16,7 @@ use Rattle.rules.specs.Promises.{Settled, ReadPromise, net_refusal, tabled, text
 use Rattle.laws.specs.Tests.{is_false, both_false, passes}
 use Rattle.laws.specs.Figures.{read-figures}
 use Rattle.laws.specs.Checked.{Passed}
+use Rattle.rules.specs.declared.Counted.{Counted}
 use Rattle.laws.specs.Tabling.{tables-back}
 
 -- ---- an area long enough stays so
@@ -53,12 +52,12 @@ read-stated text before e =
     record { entries = tables-back es before h; accepted = h; passed = tables-passed es before h (is_false (short_tables before) a) }
 
 -- the answers of a reading
-pub data ReadAs (text : List ℕ) (before after : Tables) : Reading → Type 0 where
-  not_read : (r : Refusal) → net_refusal (short_tables before) (texted text) ≡ some r → after ≡ before → ReadAs text before after (Refused r)
-  was_read : (n : Counts) → net_refusal (short_tables before) (texted text) ≡ none → n ≡ counts_in (text_entries text) → StatedBy text after n → ReadAs text before after (Read n.types n.rows)
+pub data ReadAs (text : List ℕ) (before after : Tables) : Result Counted Refusal → Type 0 where
+  not_read : (r : Refusal) → net_refusal (short_tables before) (texted text) ≡ some r → after ≡ before → ReadAs text before after (Err r)
+  was_read : (n : Counts) → net_refusal (short_tables before) (texted text) ≡ none → n ≡ counts_in (text_entries text) → StatedBy text after n → ReadAs text before after (Ok (record { types = n.types; rows = n.rows }))
 
 -- by the promise of read_net a text was refused, or read into tables that state it
-pub read_as : (text : List ℕ) (before : Tables) (answer : Reading) (after : Tables) → ReadPromise text before answer after → ReadAs text before after answer
+pub read_as : (text : List ℕ) (before : Tables) (answer : Result Counted Refusal) (after : Tables) → ReadPromise text before answer after → ReadAs text before after answer
 unfolding ReadPromise read_figures
 read_as text before answer after p = go (net_refusal (short_tables before) (texted text)) refl p
   where
@@ -66,8 +65,8 @@ read_as text before answer after p = go (net_refusal (short_tables before) (text
     es = text_entries text
 
     go : (o : Option Refusal) → net_refusal (short_tables before) (texted text) ≡ o → Settled o (λ r. (read_figures answer ≡ refused no_counts r) × (after ≡ before)) ((read_figures answer ≡ done (counts_in es)) × (after ≡ filled es before)) → ReadAs text before after answer
-    go (some r) e (f, m) = rw (read-figures answer (Refused r) f) (not_read r e m)
-    go none e (f, m) = rw (read-figures answer (Read (length (types_of es)) (length (rows_of es))) f, m) (was_read (counts_in es) e refl (read-stated text before e))
+    go (some r) e (f, m) = rw (read-figures answer (Err r) f) (not_read r e m)
+    go none e (f, m) = rw (read-figures answer (Ok (record { types = (length (types_of es)); rows = (length (rows_of es)) })) f, m) (was_read (counts_in es) e refl (read-stated text before e))
 
 -- ---- the same net, as text and as tables
 -- the tables read from a text that is not refused are handed over as the text is: no promise tells one from the other

@@ -1,14 +1,9 @@
 -- Each promise settles its entry: two answers, and two memories afterwards, that one promise allows are equal; for planning, with the
 -- clause that says which placement is returned. Assumes nothing.
-use Rattle.std.specs.Prelude.{◌≡◌, refl, false, ◌||◌, List, map, ◌⊎◌, ℕ, ltb, ℤ, length}
+use Rattle.std.specs.Prelude.{◌≡◌, refl, false, ◌||◌, List, map, ◌⊎◌, ℕ, ltb, ℤ, length, Result}
 use Rattle.std.proofs.Common.{sym, ap, ◌∙◌, inl, inr, arith}
 use Rattle.std.proofs.Math.Option.{Option, none, some}
 use Rattle.rules.specs.declared.Refusal.{Refusal}
-use Rattle.rules.specs.declared.Reading.{Reading}
-use Rattle.rules.specs.declared.Checking.{Checking}
-use Rattle.rules.specs.declared.Slacking.{Slacking}
-use Rattle.rules.specs.declared.Planning.{Planning}
-use Rattle.rules.specs.declared.Listing.{Listing}
 use Rattle.rules.specs.Lists.{written}
 use Rattle.rules.specs.Quantities.{list_room}
 use Rattle.rules.specs.Entries.{Entry, Repeater, types_of, rows_of}
@@ -23,6 +18,8 @@ use Rattle.rules.specs.Promises.{Handed, texted, net_refusal, Settled, ReadPromi
 use Rattle.laws.specs.Integers.{≤-antisym}
 use Rattle.laws.specs.Trees.{least-unique}
 use Rattle.laws.specs.Listing.{unbeaten-unique}
+use Rattle.rules.specs.declared.Counted.{Counted}
+use Rattle.rules.specs.declared.Timed.{Timed}
 use Rattle.laws.specs.Figures.{read-figures, check-figures, slack-figures, plan-figures, list-figures}
 
 -- two promises about one refusal, or about none
@@ -32,18 +29,18 @@ either (some r) f g p q = f r p q
 
 -- ---- read_net
 -- one text, and tables before, settle the answer and the tables after
-pub read-settled : (text : List ℕ) (before : Tables) (a b : Reading) (x y : Tables) → ReadPromise text before a x → ReadPromise text before b y → (a ≡ b) × (x ≡ y)
+pub read-settled : (text : List ℕ) (before : Tables) (a b : Result Counted Refusal) (x y : Tables) → ReadPromise text before a x → ReadPromise text before b y → (a ≡ b) × (x ≡ y)
 unfolding ReadPromise
 read-settled text before a b x y = either (net_refusal (short_tables before) (texted text)) (λ r (p, m) (q, n). (read-figures a b (p ∙ sym q), m ∙ sym n)) (λ (p, m) (q, n). (read-figures a b (p ∙ sym q), m ∙ sym n))
 
 -- ---- check_net
 -- a net settles the answer
-pub check-settled : (net : Handed) (a b : Checking) → CheckPromise net a → CheckPromise net b → a ≡ b
+pub check-settled : (net : Handed) (a b : Result (Unit {0}) Refusal) → CheckPromise net a → CheckPromise net b → a ≡ b
 unfolding CheckPromise
 check-settled net a b = either (net_refusal false net) (λ r p q. check-figures a b (p ∙ sym q)) (λ p q. check-figures a b (p ∙ sym q))
 
 -- also where its counts are answered
-pub count-settled : (net : Handed) (a b : Reading) → CountPromise net a → CountPromise net b → a ≡ b
+pub count-settled : (net : Handed) (a b : Result Counted Refusal) → CountPromise net a → CountPromise net b → a ≡ b
 unfolding CountPromise
 count-settled net a b = either (net_refusal false net) (λ r p q. read-figures a b (p ∙ sym q)) (λ p q. read-figures a b (p ∙ sym q))
 
@@ -66,7 +63,7 @@ timing-unique es words v w f g =
     λ i. record { slack = s i; load = l i }
 
 -- a net and a placement settle the answer
-pub slack-settled : (net : Handed) (words : List ℕ) (a b : Slacking) → SlackPromise net words a → SlackPromise net words b → a ≡ b
+pub slack-settled : (net : Handed) (words : List ℕ) (a b : Result Timed Refusal) → SlackPromise net words a → SlackPromise net words b → a ≡ b
 unfolding SlackPromise
 slack-settled net words a b = either (slack_refusal net words) (λ r p q. slack-figures a b (p ∙ sym q)) (λ (v, p, f) (w, q, g). slack-figures a b (p ∙ ap done (timing-unique net.entries words v w f g) ∙ sym q))
 
@@ -85,7 +82,7 @@ list-unique es row before x y m n f g = same (unbeaten-unique (rw (one-tree f.tr
     same l = (f.long ∙ ap length l ∙ sym g.long, λ i. record { loads = loads l i; times = times l i })
 
 -- a net, a row and the lent areas settle the answer and every lent word after
-pub list-settled : {W : Type 0} (s : Storage W) (net : Handed) (row : ℕ) (before : ListAreas W) (a b : Listing) (x y : ListAreas W) → ListPromise s net row before a x → ListPromise s net row before b y → (a ≡ b) × (x ≡ y)
+pub list-settled : {W : Type 0} (s : Storage W) (net : Handed) (row : ℕ) (before : ListAreas W) (a b : Result ℕ Refusal) (x y : ListAreas W) → ListPromise s net row before a x → ListPromise s net row before b y → (a ≡ b) × (x ≡ y)
 unfolding ListPromise
 list-settled s net row before a b x y = either (list_refusal (short_lent before.list || s.short before.work) net row) (λ r (p, f) (q, g). (list-figures a b (p ∙ sym q), f ∙ sym g)) where_not
   where
@@ -100,14 +97,14 @@ loads-alone : {W : Type 0} {x y : Lent} {v w : W} → list_areas x v ≡ list_ar
 loads-alone {W} e = ap (λ (m : ListAreas W). loads_areas m.list.loads m.work) e
 
 -- a net, a row and the lent areas settle the answer and every lent word after
-pub loads-settled : {W : Type 0} (s : Storage W) (net : Handed) (row : ℕ) (before : LoadsAreas W) (a b : Listing) (x y : LoadsAreas W) → LoadsPromise s net row before a x → LoadsPromise s net row before b y → (a ≡ b) × (x ≡ y)
+pub loads-settled : {W : Type 0} (s : Storage W) (net : Handed) (row : ℕ) (before : LoadsAreas W) (a b : Result ℕ Refusal) (x y : LoadsAreas W) → LoadsPromise s net row before a x → LoadsPromise s net row before b y → (a ≡ b) × (x ≡ y)
 unfolding LoadsPromise
 loads-settled s net row before a b x y (t, p) (u, q) =
     let (e, m) = list-settled s net row (list_areas (lent_of before.loads unseen_times) before.work) a b (list_areas (lent_of x.loads t) x.work) (list_areas (lent_of y.loads u) y.work) p q in
     (e, loads-alone m)
 
 -- no list depends on what its area of times held, nor on how long that was beyond its room
-pub other-times : {W : Type 0} (s : Storage W) (net : Handed) (row : ℕ) (before after : Lent) (work work' : W) (a : Listing) (times : List ℤ) → ltb (length before.times) list_room ≡ false → ltb (length times) list_room ≡ false
+pub other-times : {W : Type 0} (s : Storage W) (net : Handed) (row : ℕ) (before after : Lent) (work work' : W) (a : Result ℕ Refusal) (times : List ℤ) → ltb (length before.times) list_room ≡ false → ltb (length times) list_room ≡ false
     → ListPromise s net row (list_areas before work) a (list_areas after work') → (times' : List ℤ) × ListPromise s net row (list_areas (lent_of before.loads times) work) a (list_areas (lent_of after.loads times') work')
 unfolding ListPromise short_lent
 other-times {W} s net row before after work work' a times e f p = rw f (go (list_refusal ((ltb (length before.loads) list_room || false) || s.short work) net row) (rw e at p))
@@ -123,7 +120,7 @@ other-times {W} s net row before after work work' a times e f p = rw f (go (list
     go (some r) (g, m) = (times, (g, ap (λ (x : LoadsAreas W). list_areas (lent_of x.loads times) x.work) (loads-alone m)))
 
 -- so where list_at has room for its times, loads_at gives the same answer and the same loads, and leaves the same work area
-pub loads-listed : {W : Type 0} (s : Storage W) (net : Handed) (row : ℕ) (before after : Lent) (work work' : W) (a b : Listing) (y : LoadsAreas W) → ltb (length before.times) list_room ≡ false
+pub loads-listed : {W : Type 0} (s : Storage W) (net : Handed) (row : ℕ) (before after : Lent) (work work' : W) (a b : Result ℕ Refusal) (y : LoadsAreas W) → ltb (length before.times) list_room ≡ false
     → ListPromise s net row (list_areas before work) a (list_areas after work') → LoadsPromise s net row (loads_areas before.loads work) b y → (a ≡ b) × (loads_areas after.loads work' ≡ y)
 unfolding LoadsPromise
 loads-listed s net row before after work work' a b y e p q = loads-settled s net row (loads_areas before.loads work) a b (loads_areas after.loads work') y (other-times s net row before after work work' a unseen_times e refl p) q
@@ -139,13 +136,13 @@ planned-unique types driver t p q v w f g =
     λ i. record { slack = s i; load = l i }
 
 -- what two results of a plan have alike by the promise alone: the answer, the work area, and the placement, or else both placements are planned
-pub record SamePlan {W : Type 0} (es : List Entry) (before : List ℕ) (a b : Planning) (x y : PlanAreas W) : Type 0 where
+pub record SamePlan {W : Type 0} (es : List Entry) (before : List ℕ) (a b : Result Timed Refusal) (x y : PlanAreas W) : Type 0 where
   pub answer : a ≡ b
   pub work : x.work ≡ y.work
   pub words : (x.placement ≡ y.placement) ⊎ ((timing : Timing) × (plan_figures a ≡ done timing) × PlanOf es before x.placement timing × PlanOf es before y.placement timing)
 
 -- a net and the lent areas settle all but which planned placement is returned
-pub plan-alike : {W : Type 0} (s : Storage W) (net : Handed) (before : PlanAreas W) (a b : Planning) (x y : PlanAreas W) → PlanPromise s net before a x → PlanPromise s net before b y → SamePlan net.entries before.placement a b x y
+pub plan-alike : {W : Type 0} (s : Storage W) (net : Handed) (before : PlanAreas W) (a b : Result Timed Refusal) (x y : PlanAreas W) → PlanPromise s net before a x → PlanPromise s net before b y → SamePlan net.entries before.placement a b x y
 unfolding PlanPromise
 plan-alike {W} s net before a b x y = either (net_refusal (short_placement before.placement || s.short before.work) net) where_refused where_not
   where

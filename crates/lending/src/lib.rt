@@ -2,4 +2,5 @@
 #![tactic(auto)]
 
 pub mod stamps;
-pub mod sums;
+pub mod tables;
+pub mod work;

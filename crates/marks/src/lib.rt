@@ -48,7 +48,8 @@ pub fn joined(a: [u64; PLACEMENT_ROOM], b: [u64; PLACEMENT_ROOM]) -> [u64; PLACE
     [a[0] | b[0], a[1] | b[1], a[2] | b[2], a[3] | b[3]]
 }
 
-// The mark of site j of a lent placement. Of a longer area the part beyond is not read.
+// The mark of site j of a lent placement. Of a longer area the part beyond is not read. It is a number, 0 for none, as it stands in the
+// words that C lends.
 pub fn mark_of(words: &[u64], j: usize) -> u64
     requires { (j < sites_room) × (placement_room ≤ length words.now) }
     ensures value { result ≡ marks words.now j }

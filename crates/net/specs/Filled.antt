@@ -1,18 +1,12 @@
 -- What reading leaves in the lent areas: the entries of the text at their start where nothing is refused, and else what was there.
 -- Assumes nothing.
-use Rattle.std.specs.Prelude.{◌≡◌, refl, Bool, true, false, cond, ◌||◌, List, [], ◌++◌, ℕ, ◌*◌, ◌≤◌, ◌<◌, ltb, ℤ, length, take, drop}
+use Rattle.std.specs.Prelude.{◌≡◌, refl, Bool, true, false, cond, ◌||◌, List, [], ◌++◌, ℕ, ◌*◌, ◌≤◌, ◌<◌, ltb, ℤ, length, take, drop, Result, Ok, Err}
 use Rattle.std.proofs.Common.{sym, ◌∙◌, arith, length-take-le}
 use Rattle.std.proofs.Math.Option.{none, some, or_else}
 use borrow.Author.Tests.{lt-ltb, le-ltb, ltb-true, ltb-false}
 use Rattle.rules.specs.Quantities.{types_room, rows_room, text_room}
-use Rattle.rules.specs.declared.Checking.{Checking}
-use Rattle.rules.specs.declared.Checking.TheVariants.{Accepted}
-use Rattle.rules.specs.declared.Checking.TheVariants.{Refused as NotAccepted}
 use Rattle.rules.specs.declared.Refusal.{Refusal}
 use Rattle.rules.specs.declared.Refusal.TheVariants.{Room, Short}
-use Rattle.rules.specs.declared.Reading.{Reading}
-use Rattle.rules.specs.declared.Reading.TheVariants.{Read}
-use Rattle.rules.specs.declared.Reading.TheVariants.{Refused as NotRead}
 use Rattle.rules.specs.Lists.{written}
 use Rattle.rules.specs.Entries.{Entry, types_of, rows_of}
 use Rattle.rules.specs.Text.{text_entries}
@@ -22,23 +16,22 @@ use Rattle.rules.specs.Answers.{refused, done, no_counts, read_figures}
 use Rattle.rules.specs.Promises.{Settled, ReadPromise, net_refusal}
 use Rattle.rooms.specs.Rooms.{unread}
 use Rattle.checks.specs.declared.Passed.{Passed}
-use Rattle.ending.specs.declared.Taking.{Taking}
-use Rattle.ending.specs.declared.Taking.TheVariants.{Taken, Refused}
 use Rattle.checks.specs.Checks.{FewPassed}
 use Rattle.entries.specs.Held.{Holds}
 use Rattle.net.specs.Steps.{Rooms, AllTaken}
+use Rattle.rules.specs.declared.Counted.{Counted}
 use Rattle.net.specs.Cut.{or_left, or_right}
 
 -- the promise of reading once the areas and the text have their length
-unfoldable pub ReadAfter : (text : List ℕ) (before : Tables) → Reading → (after : Tables) → Type 0
+unfoldable pub ReadAfter : (text : List ℕ) (before : Tables) → Result Counted Refusal → (after : Tables) → Type 0
 ReadAfter text before answer after =
     Settled (refusal_of (text_entries text))
     (λ r. (read_figures answer ≡ refused no_counts r) × (after ≡ before))
     ((read_figures answer ≡ done (record { types = length (types_of (text_entries text)); rows = length (rows_of (text_entries text)) })) × (after ≡ filled (text_entries text) before))
 
 -- ---- laws
-pub refused-after : (text : List ℕ) (t : Tables) (r : Taking) (types rows : List ℕ) (due : List ℤ) (x : Refusal) → AllTaken text r types rows due → r ≡ Refused x
-    → ReadAfter text t (NotRead x) t
+pub refused-after : (text : List ℕ) (t : Tables) (r : Result Passed Refusal) (types rows : List ℕ) (due : List ℤ) (x : Refusal) → AllTaken text r types rows due → r ≡ Err x
+    → ReadAfter text t (Err x) t
 unfolding ReadAfter refusal_of read_figures
 refused-after text t r types rows due x g e =
     let f : first_refusal [] (text_entries text) ≡ some x = rw e at g in
@@ -61,16 +54,16 @@ module _ (es : List Entry) (tw rw' : List ℕ) (dw : List ℤ) (n : Passed) (h :
         filled-area (due_table (rows_of es)) due dw due' n.rows h.due_times (omega (arith, h.few.rows, room.due_fits)) c,
       )
 
-pub taken-after : (text : List ℕ) (r : Taking) (tw rw' : List ℕ) (dw : List ℤ) (n : Passed) (types types' rows rows' : List ℕ) (due due' : List ℤ)
-    → AllTaken text r tw rw' dw → r ≡ Taken n → Rooms tw rw' dw
+pub taken-after : (text : List ℕ) (r : Result Passed Refusal) (tw rw' : List ℕ) (dw : List ℤ) (n : Passed) (types types' rows rows' : List ℕ) (due due' : List ℤ)
+    → AllTaken text r tw rw' dw → r ≡ Ok n → Rooms tw rw' dw
     → types' ≡ take (words_a_type * n.types) tw ++ drop (words_a_type * n.types) types → rows' ≡ take (words_a_row * n.rows) rw' ++ drop (words_a_row * n.rows) rows → due' ≡ take n.rows dw ++ drop n.rows due
-    → ReadAfter text (tables_of types rows due) (Read n.types n.rows) (tables_of types' rows' due')
+    → ReadAfter text (tables_of types rows due) (Ok (record { types = n.types; rows = n.rows })) (tables_of types' rows' due')
 unfolding ReadAfter refusal_of read_figures
 taken-after text r tw rw' dw n types types' rows rows' due due' g e room a b c =
     let f : (first_refusal [] (text_entries text) ≡ none) × Holds (text_entries text) tw rw' dw n = rw e at g in
     rw f.0 (rw (f.1.types_counted, f.1.rows_counted) refl, filled_is (text_entries text) tw rw' dw n f.1 room types types' rows rows' due due' a b c)
 
-pub taken-few : (text : List ℕ) (r : Taking) (tw rw' : List ℕ) (dw : List ℤ) (n : Passed) → AllTaken text r tw rw' dw → r ≡ Taken n → FewPassed n
+pub taken-few : (text : List ℕ) (r : Result Passed Refusal) (tw rw' : List ℕ) (dw : List ℤ) (n : Passed) → AllTaken text r tw rw' dw → r ≡ Ok n → FewPassed n
 taken-few text r tw rw' dw n g e =
     let f : (first_refusal [] (text_entries text) ≡ none) × Holds (text_entries text) tw rw' dw n = rw e at g in
     f.1.few
@@ -78,36 +71,36 @@ taken-few text r tw rw' dw n g e =
 -- ---- before any line is read
 module _ (text types rows : List ℕ) (due : List ℤ) where
   short-read : (s : Bool) → s ≡ (ltb (length types) (words_a_type * types_room) || (ltb (length rows) (words_a_row * rows_room) || ltb (length due) rows_room)) → s ≡ true
-      → ReadPromise text (tables_of types rows due) (NotRead Short) (tables_of types rows due)
+      → ReadPromise text (tables_of types rows due) (Err Short) (tables_of types rows due)
   unfolding ReadPromise net_refusal short_tables read_figures or_else
   short-read s e t = rw (sym e ∙ t) (refl, refl)
 
   long-read : (s : Bool) → s ≡ (ltb (length types) (words_a_type * types_room) || (ltb (length rows) (words_a_row * rows_room) || ltb (length due) rows_room)) → s ≡ false → text_room < length text
-      → ReadPromise text (tables_of types rows due) (NotRead (Room 0)) (tables_of types rows due)
+      → ReadPromise text (tables_of types rows due) (Err (Room 0)) (tables_of types rows due)
   unfolding ReadPromise net_refusal short_tables read_figures or_else
   long-read s e t l = rw (sym e ∙ t, lt-ltb text_room (length text) l) (refl, refl)
 
-  pub lines-read : (s : Bool) (r : Reading) (after : Tables) → s ≡ (ltb (length types) (words_a_type * types_room) || (ltb (length rows) (words_a_row * rows_room) || ltb (length due) rows_room)) → s ≡ false → length text ≤ text_room
+  pub lines-read : (s : Bool) (r : Result Counted Refusal) (after : Tables) → s ≡ (ltb (length types) (words_a_type * types_room) || (ltb (length rows) (words_a_row * rows_room) || ltb (length due) rows_room)) → s ≡ false → length text ≤ text_room
       → ReadAfter text (tables_of types rows due) r after → ReadPromise text (tables_of types rows due) r after
   unfolding ReadPromise net_refusal short_tables ReadAfter or_else
   lines-read s r after e t l g = rw (sym e ∙ t, le-ltb text_room (length text) l) g
 
   -- what was refused before any line is what the promise says
-  pub not_read : (s : Bool) (c : Checking) (r : Refusal) → s ≡ (ltb (length types) (words_a_type * types_room) || (ltb (length rows) (words_a_row * rows_room) || ltb (length due) rows_room)) → c ≡ unread s (length text) → c ≡ NotAccepted r
-      → ReadPromise text (tables_of types rows due) (NotRead r) (tables_of types rows due)
+  pub not_read : (s : Bool) (c : Result (Unit {0}) Refusal) (r : Refusal) → s ≡ (ltb (length types) (words_a_type * types_room) || (ltb (length rows) (words_a_row * rows_room) || ltb (length due) rows_room)) → c ≡ unread s (length text) → c ≡ Err r
+      → ReadPromise text (tables_of types rows due) (Err r) (tables_of types rows due)
   not_read true c r e u f = let z : r ≡ Short = cc in rw z (short-read true e refl)
   not_read false c r e u f = go (ltb text_room (length text)) refl u
     where
-      go : (b : Bool) → ltb text_room (length text) ≡ b → c ≡ cond b (NotAccepted (Room 0)) Accepted → ReadPromise text (tables_of types rows due) (NotRead r) (tables_of types rows due)
+      go : (b : Bool) → ltb text_room (length text) ≡ b → c ≡ cond b (Err (Room 0)) (Ok tt) → ReadPromise text (tables_of types rows due) (Err r) (tables_of types rows due)
       go true l u = let z : r ≡ Room 0 = cc in rw z (long-read false e refl (ltb-true text_room (length text) l))
       go false l u = absurd (let z : ◌≡◌ {A = ℕ} 0 1 = cc in omega arith)
 
   -- what was not has the room
-  pub to_read : (s : Bool) (c : Checking) → c ≡ unread s (length text) → c ≡ Accepted → (s ≡ false) × (length text ≤ text_room)
+  pub to_read : (s : Bool) (c : Result (Unit {0}) Refusal) → c ≡ unread s (length text) → c ≡ Ok tt → (s ≡ false) × (length text ≤ text_room)
   to_read true c u f = absurd (let z : ◌≡◌ {A = ℕ} 0 1 = cc in omega arith)
   to_read false c u f = (refl, go (ltb text_room (length text)) refl u)
     where
-      go : (b : Bool) → ltb text_room (length text) ≡ b → c ≡ cond b (NotAccepted (Room 0)) Accepted → length text ≤ text_room
+      go : (b : Bool) → ltb text_room (length text) ≡ b → c ≡ cond b (Err (Room 0)) (Ok tt) → length text ≤ text_room
       go true l u = absurd (let z : ◌≡◌ {A = ℕ} 0 1 = cc in omega arith)
       go false l u = ltb-false text_room (length text) l
 

@@ -2,7 +2,7 @@
 -- Assumes nothing.
 use Rattle.std.proofs.Math.Path.{◌≡◌, refl, ap}
 use Rattle.std.proofs.Common.{sym, ◌∙◌, arith, length-append, ltb-false, leb-false, eqb-true}
-use Rattle.std.specs.Prelude.{Bool, false, cond, ◌&&◌, ◌||◌, ℕ, ◌+◌, ◌*◌, ◌<◌, ltb, leb, eqb, ℤ, pos, negsuc, length, take}
+use Rattle.std.specs.Prelude.{Bool, false, cond, ◌&&◌, ◌||◌, ℕ, ◌+◌, ◌*◌, ◌<◌, ltb, leb, eqb, ℤ, pos, negsuc, length, take, Ok, Result, Err}
 use mathlib.Core.List.{List, [], ◌∷◌, ◌++◌}
 use Rattle.std.proofs.Math.Option.{none, or_else}
 use Rattle.std.specs.Int.Signed.{lt_z}
@@ -10,7 +10,6 @@ use Rattle.std.proofs.lemmas.Bool.{eqb-false}
 use Rattle.rules.specs.Tables.{words_a_type, words_a_row, type_table, row_table, due_table, due_of}
 use Rattle.rules.specs.declared.Kind.TheVariants.{Driver, Point, Sink}
 use Rattle.rules.specs.declared.Row.{Row}
-use Rattle.rules.specs.declared.Checking.TheVariants.{Accepted}
 use Rattle.rules.specs.Quantities.{most_ohms, most_femtofarads, most_own, earliest_due, latest_due, rows_room, sites_room, types_room}
 use Rattle.rules.specs.Entries.{Entry, Repeater, type, driver, point, sink, malformed, beyond, types_of, rows_of, row_of, sites_of}
 use Rattle.rules.specs.Refusals.{wire_out, misplaced, out_of_range, too_many, line_refusal}
@@ -20,11 +19,12 @@ use Rattle.repeaters.specs.declared.Buffer.{Buffer}
 use Rattle.repeaters.specs.Repeaters.{buffer_of}
 use Rattle.checks.specs.declared.Passed.{Passed}
 use Rattle.checks.specs.declared.Line.{Line}
-use Rattle.checks.specs.declared.Line.TheVariants.{Repeater as TypeLine, Driver as DriverLine, Point as PointLine, Sink as SinkLine, Refused as RefusedLine}
+use Rattle.checks.specs.declared.Line.TheVariants.{Repeater as TypeLine, Driver as DriverLine, Point as PointLine, Sink as SinkLine}
 use Rattle.entries.specs.Lines.{wire_of, pin_of, line_for}
 use Rattle.checks.specs.Checks.{checking, first_of, check_of, place_at, type_out, wire_out_of, pin_out, FewPassed, many_rows, no_parent_in}
 use Rattle.entries.specs.Held.{Holds, Grown, Roomy, with_type, with_row, counted_with, own_word}
 use Rattle.net.specs.Passing.{NoneOf, none_of, accepted-none, not-refused, check-same}
+use Rattle.rules.specs.declared.Refusal.{Refusal}
 use Rattle.net.specs.Cut.{or_left, or_right, wire-in}
 
 -- ---- what is stated by entries, and then others
@@ -107,7 +107,7 @@ own_in (pos k) e = omega (arith, ltb-false most_own k e)
 own_in (negsuc k) e = omega arith
 
 module _ (rows : List ℕ) (n : Passed) (f : FewPassed n) where
-  room-type : (t : Buffer) → NoneOf (ltb 0 n.rows) (type_out t) (leb types_room n.types) false → Roomy n (TypeLine t) × FewPassed (with_type n)
+  room-type : (t : Buffer) → NoneOf (ltb 0 n.rows) (type_out t) (leb types_room n.types) false → Roomy n (Ok (TypeLine t)) × FewPassed (with_type n)
   room-type t g =
       let few = leb-false types_room n.types g.room_not in
       let out = or_right (ltb most_femtofarads t.input.0) (ltb most_ohms t.resistance.0 || lt_z (pos most_own) t.own.0) g.range_not in
@@ -118,19 +118,19 @@ module _ (rows : List ℕ) (n : Passed) (f : FewPassed n) where
       let first = ltb-false 0 n.rows g.form_not in
       (omega arith, record { types = f.types; rows = omega arith; sites = omega (arith, f.sites) })
 
-  pub accepted-room : (line : Line) → check_of rows n line ≡ Accepted → Roomy n line × FewPassed (counted_with n line)
-  accepted-room (TypeLine t) e =
+  pub accepted-room : (line : Result Line Refusal) → check_of rows n line ≡ Ok tt → Roomy n line × FewPassed (counted_with n line)
+  accepted-room (Ok (TypeLine t)) e =
       room-type t (none_of (ltb 0 n.rows) (type_out t) (leb types_room n.types) false (place_at n) (accepted-none (first_of (ltb 0 n.rows) (type_out t) (leb types_room n.types) false (place_at n)) e))
-  accepted-room (DriverLine o) e =
+  accepted-room (Ok (DriverLine o)) e =
       room-driver (ltb most_ohms o.0) (none_of (ltb 0 n.rows) (ltb most_ohms o.0) false false (place_at n) (accepted-none (first_of (ltb 0 n.rows) (ltb most_ohms o.0) false false (place_at n)) e))
-  accepted-room (PointLine w) e =
+  accepted-room (Ok (PointLine w)) e =
       let orphan' = no_parent_in rows n.rows w.parent in
       many-room n w.site (none_of (eqb n.rows 0) (wire_out_of w) (many_rows n w.site) orphan' (place_at n) (accepted-none (first_of (eqb n.rows 0) (wire_out_of w) (many_rows n w.site) orphan' (place_at n)) e)).room_not f
-  accepted-room (SinkLine w p) e =
+  accepted-room (Ok (SinkLine w p)) e =
       let orphan' = no_parent_in rows n.rows w.parent in
       let out = wire_out_of w || pin_out p in
       many-room n w.site (none_of (eqb n.rows 0) out (many_rows n w.site) orphan' (place_at n) (accepted-none (first_of (eqb n.rows 0) out (many_rows n w.site) orphan' (place_at n)) e)).room_not f
-  accepted-room (RefusedLine r) e = let z : ◌≡◌ {A = ℕ} 0 1 = cc in absurd (omega arith)
+  accepted-room (Err r) e = let z : ◌≡◌ {A = ℕ} 0 1 = cc in absurd (omega arith)
 
 -- ---- a line that is not refused, and is stored, is held
 site-word : (s : ℕ) → ltb 1 s ≡ false → s ≡ cond (eqb s 1) 1 0

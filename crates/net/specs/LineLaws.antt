@@ -1,6 +1,6 @@
 -- What a line reader has learnt, field by field: E is the entry of the line, and `next` what is done with a field's number and the
 -- fields after it. Then the entry of each kind of line, and the line that states it. Assumes nothing.
-use Rattle.std.specs.Prelude.{◌≡◌, refl, List, [], ◌∷◌, ℕ, suc, ◌+◌, ◌≤◌, ◌<◌, ◌^◌, min, ℤ, pos, negsuc, length}
+use Rattle.std.specs.Prelude.{◌≡◌, refl, List, [], ◌∷◌, ℕ, suc, ◌+◌, ◌≤◌, ◌<◌, ◌^◌, min, ℤ, pos, negsuc, length, Result, Ok, Err}
 use Rattle.std.proofs.Common.{sym, ap, ◌∙◌, arith, to_z, of_z}
 use Rattle.std.proofs.Math.Option.{Option, none, some}
 use Rattle.std.specs.Int.Signed.{mag}
@@ -12,8 +12,6 @@ use Rattle.rules.specs.Entries.{Entry, type, driver, point, sink, malformed}
 use Rattle.rules.specs.Text.{parted, number, signed, after, end, next_field, type_line, driver_line, point_line, sink_line, lettered, line_of}
 use Rattle.text.specs.declared.Field.{Field}
 use Rattle.text.specs.declared.Field.TheVariants.{Number, Bad}
-use Rattle.text.specs.declared.SignedField.{SignedField}
-use Rattle.text.specs.declared.SignedField.TheVariants.{Number as Time, Bad as BadTime}
 use Rattle.text.specs.Stretches.{tab, absurd}
 use Rattle.text.specs.Numbers.{cap, capped_time, field_of, time_of, number-empty, signed-empty, mag-minus, bits_back}
 use Rattle.text.specs.Fields.{field_at, next_at, fields_from, NumberAt, TimeAt, field-read, fields-start, fields-some, fields-end, fields-over}
@@ -21,12 +19,13 @@ use Rattle.repeaters.specs.declared.Buffer.{Buffer}
 use Rattle.repeaters.specs.Repeaters.{buffer_of}
 use Rattle.checks.specs.declared.Wire.{Wire}
 use Rattle.checks.specs.declared.Line.{Line}
-use Rattle.checks.specs.declared.Line.TheVariants.{Repeater as TypeLine, Driver as DriverLine, Point as PointLine, Sink as SinkLine, Refused as RefusedLine}
+use Rattle.checks.specs.declared.Line.TheVariants.{Repeater as TypeLine, Driver as DriverLine, Point as PointLine, Sink as SinkLine}
+use Rattle.rules.specs.declared.Refusal.{Refusal}
 use Rattle.entries.specs.Lines.{word, wire_of, pin_of, capped, line_for, letter_of}
 
 -- ---- one field
 -- a malformed field, or one that is missing
-pub read-bad : (E : Entry) (next : ℕ → List (List ℕ) → Entry) (line : List ℕ) (at : ℕ) (r : Field)
+pub read-bad : (E : Entry) (next : ℕ → List (List ℕ) → Entry) (line : List ℕ) (at : ℕ) (r : Field ℕ)
     → E ≡ next_field number next (fields_from line at) → NumberAt line at r → r ≡ Bad → E ≡ malformed
 read-bad E next line at r e h b = e ∙ field-read number next line at (number-empty [] refl) ∙ by (number (field_at line at)) (sym h.value ∙ b)
   where
@@ -34,20 +33,20 @@ read-bad E next line at r e h b = e ∙ field-read number next line at (number-e
     by none f = refl
     by (some m) f = let z : ◌≡◌ {A = ℕ} 0 1 = cc in absurd (omega arith)
 
-pub read-bad-time : (E : Entry) (next : ℤ → List (List ℕ) → Entry) (line : List ℕ) (at : ℕ) (r : SignedField)
-    → E ≡ next_field signed next (fields_from line at) → TimeAt line at r → r ≡ BadTime → E ≡ malformed
+pub read-bad-time : (E : Entry) (next : ℤ → List (List ℕ) → Entry) (line : List ℕ) (at : ℕ) (r : Field ℤ)
+    → E ≡ next_field signed next (fields_from line at) → TimeAt line at r → r ≡ Bad → E ≡ malformed
 read-bad-time E next line at r e h b = e ∙ field-read signed next line at (signed-empty [] refl) ∙ by (signed (field_at line at)) (sym h.value ∙ b)
   where
-    by : (o : Option ℤ) → time_of o (next_at line at) ≡ BadTime → after o next (fields_from line (next_at line at)) ≡ malformed
+    by : (o : Option ℤ) → time_of o (next_at line at) ≡ Bad → after o next (fields_from line (next_at line at)) ≡ malformed
     by none f = refl
     by (some m) f = let z : ◌≡◌ {A = ℕ} 0 1 = cc in absurd (omega arith)
 
 -- a number stands in the line
-pub inside : (line : List ℕ) (at : ℕ) (r : Field) (n to : ℕ) → NumberAt line at r → r ≡ Number n to → to ≤ length line + 1
+pub inside : (line : List ℕ) (at : ℕ) (r : Field ℕ) (n to : ℕ) → NumberAt line at r → r ≡ Number n to → to ≤ length line + 1
 inside line at r n to h b = rw b at h.within
 
 -- what was read is the field's number, cut, and the fields after it are still to read
-pub read_number : (E : Entry) (next : ℕ → List (List ℕ) → Entry) (line : List ℕ) (at : ℕ) (r : Field) (n to : ℕ)
+pub read_number : (E : Entry) (next : ℕ → List (List ℕ) → Entry) (line : List ℕ) (at : ℕ) (r : Field ℕ) (n to : ℕ)
     → E ≡ next_field number next (fields_from line at) → NumberAt line at r → r ≡ Number n to → (m : ℕ) × (n ≡ min m cap) × (E ≡ next m (fields_from line to))
 read_number E next line at r n to e h b = by (number (field_at line at)) (sym h.value ∙ b) (e ∙ field-read number next line at (number-empty [] refl))
   where
@@ -58,11 +57,11 @@ read_number E next line at r n to e h b = by (number (field_at line at)) (sym h.
         let i : next_at line at ≡ to = cc in
         (m, cc, g ∙ ap (λ (k : ℕ). next m (fields_from line k)) i)
 
-pub read-time : (E : Entry) (next : ℤ → List (List ℕ) → Entry) (line : List ℕ) (at : ℕ) (r : SignedField) (n : ℤ) (to : ℕ)
-    → E ≡ next_field signed next (fields_from line at) → TimeAt line at r → r ≡ Time n to → (m : ℤ) × (n ≡ capped_time m) × (E ≡ next m (fields_from line to))
+pub read-time : (E : Entry) (next : ℤ → List (List ℕ) → Entry) (line : List ℕ) (at : ℕ) (r : Field ℤ) (n : ℤ) (to : ℕ)
+    → E ≡ next_field signed next (fields_from line at) → TimeAt line at r → r ≡ Number n to → (m : ℤ) × (n ≡ capped_time m) × (E ≡ next m (fields_from line to))
 read-time E next line at r n to e h b = by (signed (field_at line at)) (sym h.value ∙ b) (e ∙ field-read signed next line at (signed-empty [] refl))
   where
-    by : (o : Option ℤ) → time_of o (next_at line at) ≡ Time n to → E ≡ after o next (fields_from line (next_at line at))
+    by : (o : Option ℤ) → time_of o (next_at line at) ≡ Number n to → E ≡ after o next (fields_from line (next_at line at))
         → (m : ℤ) × (n ≡ capped_time m) × (E ≡ next m (fields_from line to))
     by none f g = let z : ◌≡◌ {A = ℕ} 0 1 = cc in absurd (omega arith)
     by (some m) f g =
@@ -131,17 +130,17 @@ unfolding sink_line
 sink-is fields = refl
 
 -- ---- the line that states the entry
-pub bad-made : (place : ℕ) (E : Entry) → E ≡ malformed → RefusedLine (Form place) ≡ line_for place (capped E)
+pub bad-made : (place : ℕ) (E : Entry) → E ≡ malformed → Err (Form place) ≡ line_for place (capped E)
 bad-made place E e = rw e
 
 word_cut : (n m : ℕ) → n ≡ min m cap → word n ≡ word m
 word_cut n m e = omega arith
 
 pub type-made : (place : ℕ) (E : Entry) (a b c n₁ n₂ n₃ : ℕ) (r : Buffer) → E ≡ type a b c → n₁ ≡ min a cap → n₂ ≡ min b cap → n₃ ≡ min c cap
-    → r ≡ buffer_of (word n₁) (word n₂) (word n₃) → TypeLine r ≡ line_for place (capped E)
+    → r ≡ buffer_of (word n₁) (word n₂) (word n₃) → Ok (TypeLine r) ≡ line_for place (capped E)
 type-made place E a b c n₁ n₂ n₃ r e p q s g = rw (e, g, word_cut n₁ a p, word_cut n₂ b q, word_cut n₃ c s)
 
-pub driver-made : (place : ℕ) (E : Entry) (a n w : ℕ) → E ≡ driver a → n ≡ min a cap → w ≡ word n → DriverLine (record { 0 = w }) ≡ line_for place (capped E)
+pub driver-made : (place : ℕ) (E : Entry) (a n w : ℕ) → E ≡ driver a → n ≡ min a cap → w ≡ word n → Ok (DriverLine (record { 0 = w })) ≡ line_for place (capped E)
 driver-made place E a n w e p g = rw (e, g, word_cut n a p)
 
 -- the wire of what was read is the wire of the fields
@@ -149,7 +148,7 @@ pub wire-made : (a b c d n₁ n₂ n₃ n₄ : ℕ) (w : Wire) → n₁ ≡ min 
     → w ≡ wire_of (word n₁) (word n₂) (word n₃) (word n₄) → w ≡ wire_of (word a) (word b) (word c) (word d)
 wire-made a b c d n₁ n₂ n₃ n₄ w p q s t g = rw (g, word_cut n₁ a p, word_cut n₂ b q, word_cut n₃ c s, word_cut n₄ d t)
 
-pub point-made : (place : ℕ) (E : Entry) (a b c d : ℕ) (w : Wire) → E ≡ point a b c d → w ≡ wire_of (word a) (word b) (word c) (word d) → PointLine w ≡ line_for place (capped E)
+pub point-made : (place : ℕ) (E : Entry) (a b c d : ℕ) (w : Wire) → E ≡ point a b c d → w ≡ wire_of (word a) (word b) (word c) (word d) → Ok (PointLine w) ≡ line_for place (capped E)
 point-made place E a b c d w e g = rw (e, g)
 
 cut_small : (z : ℤ) → mag (capped_time z) ≤ cap
@@ -157,7 +156,7 @@ cut_small (pos n) = omega arith
 cut_small (negsuc n) = omega (arith, mag-minus (min (suc n) cap))
 
 pub sink-made : (place : ℕ) (E : Entry) (a b c d f n : ℕ) (z y : ℤ) (w : Wire) (p : Pin) → E ≡ sink a b c d f z → w ≡ wire_of (word a) (word b) (word c) (word d)
-    → n ≡ min f cap → y ≡ capped_time z → p ≡ pin_of (word n) (to_z w64 (of_z w64 y)) → SinkLine w p ≡ line_for place (capped E)
+    → n ≡ min f cap → y ≡ capped_time z → p ≡ pin_of (word n) (to_z w64 (of_z w64 y)) → Ok (SinkLine w p) ≡ line_for place (capped E)
 sink-made place E a b c d f n z y w p e g h i j =
     let small : mag y < 2 ^ 63 = rw i (omega (arith, cut_small z)) in
     rw (e, g, j, word_cut n f h, bits_back y small, i)
@@ -174,7 +173,7 @@ pub line-lettered : (line : List ℕ) → line_of (parted tab line) ≡ lettered
 line-lettered line =
     ap line_of (sym (fields-start line) ∙ fields-some line 0 (omega arith)) ∙ lettered-first line (field_at line 0)
 
-module _ (place : ℕ) (line : List ℕ) (b : ℕ) (r : Line) (letter : b ≡ letter_of (field_at line 0)) where
+module _ (place : ℕ) (line : List ℕ) (b : ℕ) (r : Result Line Refusal) (letter : b ≡ letter_of (field_at line 0)) where
   by-letter : (E : Entry) → lettered b (fields_from line 2) ≡ E → r ≡ line_for place (capped E) → r ≡ line_for place (capped (line_of (parted tab line)))
   by-letter E e g =
       g ∙ ap (λ (x : Entry). line_for place (capped x)) (sym (line-lettered line ∙ ap (λ (k : ℕ). lettered k (fields_from line 2)) (sym letter) ∙ e))
@@ -195,6 +194,6 @@ module _ (place : ℕ) (line : List ℕ) (b : ℕ) (r : Line) (letter : b ≡ le
   unfolding lettered
   read-sink e = by-letter (sink_line (fields_from line 2)) (rw e)
 
-  pub read_none : (b ≡ 84 → ⊥) → (b ≡ 68 → ⊥) → (b ≡ 87 → ⊥) → (b ≡ 83 → ⊥) → r ≡ RefusedLine (Form place) → r ≡ line_for place (capped (line_of (parted tab line)))
+  pub read_none : (b ≡ 84 → ⊥) → (b ≡ 68 → ⊥) → (b ≡ 87 → ⊥) → (b ≡ 83 → ⊥) → r ≡ Err (Form place) → r ≡ line_for place (capped (line_of (parted tab line)))
   unfolding lettered
   read_none t d w s = by-letter malformed (rw (ne_eqb b 84 t, ne_eqb b 68 d, ne_eqb b 87 w, ne_eqb b 83 s))

@@ -1,5 +1,5 @@
 -- The checks of a line by number are those of the refusal list, after entries that the areas hold. Assumes nothing.
-use Rattle.std.specs.Prelude.{◌≡◌, Bool, true, not, ◌&&◌, ◌||◌, List, [], ◌∷◌, ◌++◌, ℕ, zero, suc, ◌+◌, ◌*◌, ltb, leb, eqb, ℤ, length, take}
+use Rattle.std.specs.Prelude.{◌≡◌, Bool, true, not, ◌&&◌, ◌||◌, List, [], ◌∷◌, ◌++◌, ℕ, zero, suc, ◌+◌, ◌*◌, ltb, leb, eqb, ℤ, length, take, Ok, Err}
 use Rattle.std.proofs.Math.Path.{refl}
 use Rattle.std.proofs.Common.{sym, ap, ◌∙◌, arith, get_or-take, lt-ltb, le-ltb, ne_eqb, ltb-true}
 use Rattle.std.proofs.Math.Bool.{false}
@@ -9,8 +9,6 @@ use Rattle.rules.specs.Tables.{words_a_row, row_table}
 use Rattle.rules.specs.Quantities.{rows_room, sites_room}
 use Rattle.rules.specs.declared.Row.{Row}
 use Rattle.rules.specs.declared.Refusal.{Refusal}
-use Rattle.rules.specs.declared.Checking.TheVariants.{Accepted}
-use Rattle.rules.specs.declared.Checking.TheVariants.{Refused as NotAccepted}
 use Rattle.rules.specs.Entries.{Entry, type, driver, point, sink, malformed, beyond, rows_of, sites_of}
 use Rattle.rules.specs.Refusals.{some?, misplaced, out_of_range, too_many, orphan, no_parent, line_refusal, first_refusal}
 use Rattle.text.specs.Stretches.{either, absurd}
@@ -22,11 +20,11 @@ use Rattle.entries.specs.Held.{Holds}
 use Rattle.ending.specs.BelowLaws.{sink-word, word_next}
 
 -- ---- refused or accepted
-pub accepted-none : (o : Option Refusal) → checking o ≡ Accepted → o ≡ none
+pub accepted-none : (o : Option Refusal) → checking o ≡ Ok tt → o ≡ none
 accepted-none none e = refl
 accepted-none (some r) e = let z : ◌≡◌ {A = ℕ} 0 1 = cc in absurd (omega arith)
 
-pub refused-some : (o : Option Refusal) (x : Refusal) → checking o ≡ NotAccepted x → o ≡ some x
+pub refused-some : (o : Option Refusal) (x : Refusal) → checking o ≡ Err x → o ≡ some x
 refused-some none x e = let z : ◌≡◌ {A = ℕ} 0 1 = cc in absurd (omega arith)
 refused-some (some r) x e = cc
 

@@ -1,6 +1,6 @@
 -- A text line by line: the entries from a place on, and that taking its lines one by one finds the first refusal of all or holds them all.
 -- Assumes nothing.
-use Rattle.std.specs.Prelude.{◌≡◌, refl, ℕ, suc, ◌+◌, ◌-◌, ◌≤◌, ◌<◌, ltb, ℤ, take, drop}
+use Rattle.std.specs.Prelude.{◌≡◌, refl, ℕ, suc, ◌+◌, ◌-◌, ◌≤◌, ◌<◌, ltb, ℤ, take, drop, Result, Ok, Err}
 use Rattle.std.proofs.Common.{sym, ◌∙◌, arith, length-drop, drop_of_length-le, drop-drop, ltb-true, ltb-false}
 use Rattle.std.proofs.Math.Path.{ap}
 use mathlib.Core.List.{List, [], ◌∷◌, ◌++◌, append_assoc, append-nil}
@@ -15,8 +15,6 @@ use Rattle.rules.specs.Promises.{Settled}
 use Rattle.rules.specs.Tables.{type_table, row_table, due_table}
 use Rattle.text.specs.Stretches.{tab, line_feed, lead, stretch, lead-le, either, absurd, parted-last, parted-more}
 use Rattle.checks.specs.declared.Passed.{Passed}
-use Rattle.ending.specs.declared.Taking.{Taking}
-use Rattle.ending.specs.declared.Taking.TheVariants.{Taken, Refused}
 use Rattle.checks.specs.Checks.{place_at}
 use Rattle.entries.specs.Held.{Holds}
 use Rattle.ending.specs.Below.{Finished}
@@ -93,19 +91,19 @@ module _ (text : List ℕ) (at to : ℕ) (types rows : List ℕ) (due : List ℤ
       let here : length s.before + 1 ≡ place = omega (arith, s.held.lines_counted) in
       s.first ∙ ap (first_refusal s.before) (lines-unended text at to inside to_is e) ∙ first-refused s.before malformed [] (Form place) (rw here)
 
-  module _ (types' rows' : List ℕ) (due' : List ℤ) (r : Taking) (took : LineTaken (take (to - at) (drop at text)) types rows due n r types' rows' due') (ended : to < length text) where
+  module _ (types' rows' : List ℕ) (due' : List ℤ) (r : Result Passed Refusal) (took : LineTaken (take (to - at) (drop at text)) types rows due n r types' rows' due') (ended : to < length text) where
     step : EntryTaken s.before (line_of (parted tab (take (to - at) (drop at text)))) r types' rows' due'
     step = took s.before s.held
 
     lines_are : lines_from text at ≡ line_of (parted tab (take (to - at) (drop at text))) ∷ lines_from text (to + 1)
     lines_are = lines_next text at to inside to_is ended
 
-    pub reach-refused : (x : Refusal) → r ≡ Refused x → first_refusal [] (text_entries text) ≡ some x
+    pub reach-refused : (x : Refusal) → r ≡ Err x → first_refusal [] (text_entries text) ≡ some x
     reach-refused x a =
         s.first ∙ ap (first_refusal s.before) lines_are
         ∙ first-refused s.before (line_of (parted tab (take (to - at) (drop at text)))) (lines_from text (to + 1)) x (rw a at step)
 
-    pub reach-taken : (m : Passed) → r ≡ Taken m → Reaches text (to + 1) types' rows' due' m
+    pub reach-taken : (m : Passed) → r ≡ Ok m → Reaches text (to + 1) types' rows' due' m
     reach-taken m a =
         let line = line_of (parted tab (take (to - at) (drop at text))) in
         let t : (line_refusal s.before line ≡ none) × Holds (s.before ++ (line ∷ [])) types' rows' due' m = rw a at step in
@@ -122,8 +120,8 @@ unfolding lines_of parted
 lines-over text at h = rw (drop_of_length-le text {i = at} h)
 
 -- what finishing says of the entries that have passed, which are all
-pub all-passed : (first before es : List Entry) (o : Option Refusal) (r : Taking) (types rows : List ℕ) (due : List ℤ) (n : Passed) → first_refusal first es ≡ o
-    → first ++ es ≡ before → Holds before types rows due n → Settled o (λ x. r ≡ Refused x) (r ≡ Taken n) → AllAfter first es r types rows due
+pub all-passed : (first before es : List Entry) (o : Option Refusal) (r : Result Passed Refusal) (types rows : List ℕ) (due : List ℤ) (n : Passed) → first_refusal first es ≡ o
+    → first ++ es ≡ before → Holds before types rows due n → Settled o (λ x. r ≡ Err x) (r ≡ Ok n) → AllAfter first es r types rows due
 all-passed first before es none r types rows due n e f h g = rw g (e, rw f h)
 all-passed first before es (some x) r types rows due n e f h g = rw g e
 
@@ -131,7 +129,7 @@ pub last-is : (before : List Entry) → first_refusal before [] ≡ last_refusal
 unfolding first_refusal
 last-is before = refl
 
-pub reach-done : (text : List ℕ) (at : ℕ) (types rows : List ℕ) (due : List ℤ) (n : Passed) (r : Taking) → Reaches text at types rows due n → length text ≤ at
+pub reach-done : (text : List ℕ) (at : ℕ) (types rows : List ℕ) (due : List ℤ) (n : Passed) (r : Result Passed Refusal) → Reaches text at types rows due n → length text ≤ at
     → Finished rows n r → AllAfter [] (text_entries text) r types rows due
 reach-done text at types rows due n r s h f =
     let none_left = lines-over text at h in

@@ -1,5 +1,5 @@
 -- What taking one line gives, and all lines of a text. Assumes nothing.
-use Rattle.std.specs.Prelude.{◌≡◌, List, [], ◌∷◌, ◌++◌, ℕ, ◌≤◌, ◌*◌, ℤ, length, drop}
+use Rattle.std.specs.Prelude.{◌≡◌, List, [], ◌∷◌, ◌++◌, ℕ, ◌≤◌, ◌*◌, ℤ, length, drop, Result, Ok, Err}
 use Rattle.std.proofs.Math.Option.{none, some}
 use Rattle.std.proofs.Common.{arith}
 use Rattle.rules.specs.Tables.{words_a_type, words_a_row}
@@ -9,8 +9,7 @@ use Rattle.rules.specs.Text.{parted, line_of, lines_of, text_entries}
 use Rattle.rules.specs.Refusals.{line_refusal, first_refusal}
 use Rattle.text.specs.Stretches.{tab, line_feed}
 use Rattle.checks.specs.declared.Passed.{Passed}
-use Rattle.ending.specs.declared.Taking.{Taking}
-use Rattle.ending.specs.declared.Taking.TheVariants.{Taken, Refused}
+use Rattle.rules.specs.declared.Refusal.{Refusal}
 use Rattle.entries.specs.Held.{Holds}
 
 -- the areas have their room
@@ -20,20 +19,20 @@ pub record Rooms (types rows : List ℕ) (due : List ℤ) : Type 0 where
   pub due_fits : rows_room ≤ length due
 
 -- an entry after those that have passed: refused, or held with them
-abbrev pub EntryTaken : (before : List Entry) → Entry → Taking → (types rows : List ℕ) (due : List ℤ) → Type 0
-EntryTaken before e (Refused x) types rows due = line_refusal before e ≡ some x
-EntryTaken before e (Taken m) types rows due = (line_refusal before e ≡ none) × Holds (before ++ (e ∷ [])) types rows due m
+abbrev pub EntryTaken : (before : List Entry) → Entry → Result Passed Refusal → (types rows : List ℕ) (due : List ℤ) → Type 0
+EntryTaken before e (Err x) types rows due = line_refusal before e ≡ some x
+EntryTaken before e (Ok m) types rows due = (line_refusal before e ≡ none) × Holds (before ++ (e ∷ [])) types rows due m
 
-abbrev pub LineTaken : (line : List ℕ) (types rows : List ℕ) (due : List ℤ) → Passed → Taking → (types' rows' : List ℕ) (due' : List ℤ) → Type 0
+abbrev pub LineTaken : (line : List ℕ) (types rows : List ℕ) (due : List ℤ) → Passed → Result Passed Refusal → (types' rows' : List ℕ) (due' : List ℤ) → Type 0
 LineTaken line types rows due n r types' rows' due' =
     (before : List Entry) → Holds before types rows due n → EntryTaken before (line_of (parted tab line)) r types' rows' due'
 
 -- all entries, after those that have passed
-abbrev pub AllAfter : (before rest : List Entry) → Taking → (types rows : List ℕ) (due : List ℤ) → Type 0
-AllAfter before rest (Refused x) types rows due = first_refusal before rest ≡ some x
-AllAfter before rest (Taken m) types rows due = (first_refusal before rest ≡ none) × Holds (before ++ rest) types rows due m
+abbrev pub AllAfter : (before rest : List Entry) → Result Passed Refusal → (types rows : List ℕ) (due : List ℤ) → Type 0
+AllAfter before rest (Err x) types rows due = first_refusal before rest ≡ some x
+AllAfter before rest (Ok m) types rows due = (first_refusal before rest ≡ none) × Holds (before ++ rest) types rows due m
 
-abbrev pub AllTaken : (text : List ℕ) → Taking → (types rows : List ℕ) (due : List ℤ) → Type 0
+abbrev pub AllTaken : (text : List ℕ) → Result Passed Refusal → (types rows : List ℕ) (due : List ℤ) → Type 0
 AllTaken text r types rows due = AllAfter [] (text_entries text) r types rows due
 
 -- the entries of the lines from a place on

@@ -1,5 +1,5 @@
 -- The entries of a table one by one: entries counted, taken after those that have passed, the first past the room. Assumes nothing.
-use Rattle.std.specs.Prelude.{◌≡◌, refl, cond, ltb, length}
+use Rattle.std.specs.Prelude.{◌≡◌, refl, cond, ltb, length, Result, Ok, Err}
 use Rattle.std.proofs.Math.Path.{ap}
 use Rattle.std.proofs.Common.{◌∙◌}
 use mathlib.Core.List.{List, [], ◌∷◌, ◌++◌, append_assoc, append-nil}
@@ -9,14 +9,10 @@ use native.Mathlib.Omega.{arith}
 use borrow.Author.Tests.{lt-ltb, le-ltb}
 use Rattle.rules.specs.declared.Refusal.{Refusal}
 use Rattle.rules.specs.declared.Refusal.TheVariants.{Room}
-use Rattle.rules.specs.declared.Checking.{Checking}
-use Rattle.rules.specs.declared.Checking.TheVariants.{Accepted}
-use Rattle.rules.specs.declared.Checking.TheVariants.{Refused as NotAccepted}
 use Rattle.rules.specs.Entries.{Entry, beyond}
 use Rattle.rules.specs.Tables.{Tables, from, counted}
 use Rattle.rules.specs.Refusals.{line_refusal, last_refusal, first_refusal, misplaced, out_of_range, too_many}
 use Rattle.checks.specs.declared.Passed.{Passed}
-use Rattle.ending.specs.declared.Taking.{Taking}
 use Rattle.checks.specs.declared.Line.{Line}
 use Rattle.entries.specs.Lines.{line_for}
 use Rattle.checks.specs.Checks.{check_of, place_at}
@@ -85,20 +81,20 @@ module _ (t : Tables) (before es : List Entry) (n : Passed) (s : Through t befor
       }
 
 -- ---- an entry of the table
-module _ (t : Tables) (entry : ℕ → Entry) (before : List Entry) (i : ℕ) (n : Passed) (s : Through t before (from entry 0 i) n) (place : ℕ) (line : Line) (r : Checking)
+module _ (t : Tables) (entry : ℕ → Entry) (before : List Entry) (i : ℕ) (n : Passed) (s : Through t before (from entry 0 i) n) (place : ℕ) (line : Result Line Refusal) (r : Result (Unit {0}) Refusal)
     (place_is : place ≡ place_at n) (line-is : line ≡ line_for place (entry i)) (r-is : r ≡ check_of t.rows n line) where
-  refused-here : (x : Refusal) → r ≡ NotAccepted x → line_refusal (before ++ from entry 0 i) (entry i) ≡ some x
+  refused-here : (x : Refusal) → r ≡ Err x → line_refusal (before ++ from entry 0 i) (entry i) ≡ some x
   refused-here x a = entry-refused (before ++ from entry 0 i) t.types t.rows t.due n s.held (entry i) place line r place_is line-is r-is x a
 
-  pub take-refused : (room count : ℕ) (x : Refusal) → i < min count room → r ≡ NotAccepted x → (rest : List Entry) → first_refusal before (counted entry room count ++ rest) ≡ some x
+  pub take-refused : (room count : ℕ) (x : Refusal) → i < min count room → r ≡ Err x → (rest : List Entry) → first_refusal before (counted entry room count ++ rest) ≡ some x
   take-refused room count x h a rest =
       ap (first_refusal before) (counted-at entry room count i rest h)
       ∙ through-refused t before (from entry 0 i) n s (entry i) x (from entry (i + 1) (min count room - (i + 1)) ++ (cond (ltb room count) (beyond ∷ []) [] ++ rest)) (refused-here x a)
 
-  pub take-refused-all : (room count : ℕ) (x : Refusal) → i < min count room → r ≡ NotAccepted x → first_refusal before (counted entry room count) ≡ some x
+  pub take-refused-all : (room count : ℕ) (x : Refusal) → i < min count room → r ≡ Err x → first_refusal before (counted entry room count) ≡ some x
   take-refused-all room count x h a = rw (append-nil (counted entry room count)) at (take-refused room count x h a [])
 
-  pub take_more : (m : Passed) → r ≡ Accepted → Grown n line t.types t.types t.rows t.rows t.due t.due → m ≡ counted_with n line → Through t before (from entry 0 (i + 1)) m
+  pub take_more : (m : Passed) → r ≡ Ok tt → Grown n line t.types t.types t.rows t.rows t.due t.due → m ≡ counted_with n line → Through t before (from entry 0 (i + 1)) m
   take_more m a g c =
       rw (from_more entry i) (through-more t before (from entry 0 i) n s (entry i) m
       (entry-passed (before ++ from entry 0 i) t.types t.rows t.due n s.held (entry i) place line r place_is line-is r-is a)
@@ -124,7 +120,7 @@ module _ (t : Tables) (entry : ℕ → Entry) (before : List Entry) (room count 
   take-beyond-all place p h = rw (append-nil (counted entry room count)) at (take_beyond place p h [])
 
   -- all have passed: what the checks after the last line give
-  pub take_done : count ≤ room → (r : Taking) → Finished t.rows n r → AllAfter before (counted entry room count) r t.types t.rows t.due
+  pub take_done : count ≤ room → (r : Result Passed Refusal) → Finished t.rows n r → AllAfter before (counted entry room count) r t.types t.rows t.due
   take_done h r f =
       let u = take_all h in
       all-passed before (before ++ counted entry room count) (counted entry room count) (last_refusal (before ++ counted entry room count)) r t.types t.rows t.due n

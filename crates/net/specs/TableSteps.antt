@@ -1,5 +1,5 @@
 -- What taking the types of a table gives, and then its rows. Assumes nothing.
-use Rattle.std.specs.Prelude.{◌≡◌, List, [], ◌++◌, ℕ, ℤ}
+use Rattle.std.specs.Prelude.{◌≡◌, List, [], ◌++◌, ℕ, ℤ, Result, Ok, Err}
 use Rattle.std.proofs.Math.Option.{some}
 use Rattle.rules.specs.Quantities.{rows_room, types_room}
 use Rattle.rules.specs.Entries.{Entry}
@@ -7,10 +7,9 @@ use Rattle.rules.specs.Tables.{Tables, type_entry, row_entry, counted, tables_of
 use Rattle.rules.specs.Refusals.{first_refusal}
 pub use Rattle.checks.specs.Checks.{checking}
 use Rattle.checks.specs.declared.Passed.{Passed}
-use Rattle.ending.specs.declared.Taking.{Taking}
-use Rattle.ending.specs.declared.Taking.TheVariants.{Taken, Refused}
 use Rattle.checks.specs.Checks.{FewPassed}
 use Rattle.entries.specs.Held.{Holds}
+use Rattle.rules.specs.declared.Refusal.{Refusal}
 use Rattle.net.specs.Steps.{AllAfter}
 
 -- the entries of the types, and of the rows
@@ -25,18 +24,18 @@ pub record Through (t : Tables) (before es : List Entry) (n : Passed) : Type 0 w
   pub held : Holds (before ++ es) t.types t.rows t.due n
   pub first : (rest : List Entry) → first_refusal before (es ++ rest) ≡ first_refusal (before ++ es) rest
 
-abbrev pub Passes : Tables → (before es : List Entry) → Taking → Type 0
-Passes t before es (Refused x) = (rest : List Entry) → first_refusal before (es ++ rest) ≡ some x
-Passes t before es (Taken m) = Through t before es m
+abbrev pub Passes : Tables → (before es : List Entry) → Result Passed Refusal → Type 0
+Passes t before es (Err x) = (rest : List Entry) → first_refusal before (es ++ rest) ≡ some x
+Passes t before es (Ok m) = Through t before es m
 
 -- types alone
-abbrev pub FewTaken : Taking → Type 0
-FewTaken (Refused x) = Unit {0}
-FewTaken (Taken m) = FewPassed m × (m.rows ≡ 0)
+abbrev pub FewTaken : Result Passed Refusal → Type 0
+FewTaken (Err x) = Unit {0}
+FewTaken (Ok m) = FewPassed m × (m.rows ≡ 0)
 
-abbrev pub TypesTaken : (types : List ℕ) (count : ℕ) → Taking → Type 0
+abbrev pub TypesTaken : (types : List ℕ) (count : ℕ) → Result Passed Refusal → Type 0
 TypesTaken types count r = (rows : List ℕ) (due : List ℤ) → Passes (tables_of types rows due) [] (type_entries (tables_of types rows due) count) r
 
-abbrev pub RowsTaken : (rows : List ℕ) (due : List ℤ) → Passed → (count : ℕ) → Taking → Type 0
+abbrev pub RowsTaken : (rows : List ℕ) (due : List ℤ) → Passed → (count : ℕ) → Result Passed Refusal → Type 0
 RowsTaken rows due n count r =
     (types : List ℕ) (before : List Entry) → Holds before types rows due n → AllAfter before (row_entries (tables_of types rows due) count) r types rows due

@@ -3,12 +3,12 @@
 #![tactic(auto)]
 
 ghost use Rattle.std.specs.Prelude.{◌≡◌};
-ghost use Rattle.rules.specs.Promises.{ReadPromise, CheckPromise, net_refusal, tabled};
-ghost use Rattle.rules.specs.Tables.{tables_of, counts_of};
+ghost use Rattle.rules.specs.Promises.{ReadPromise, CheckPromise, net_refusal, lent_net};
+ghost use Rattle.rules.specs.Tables.{tables_of};
 ghost use Rattle.checks.specs.Checks.{checking};
 
 use reads::read_through;
-use rules::{Checking, Reading, Refusal};
+use rules::{Counted, Net, Refusal};
 use tables::take_net;
 
 mod lines;
@@ -17,45 +17,32 @@ mod stated;
 mod tables;
 
 // A net as text, read into the lent areas. A refusal leaves them as they were.
-pub fn read_net(text: &[u8], types: &mut [u32], rows: &mut [u32], due: &mut [i64]) -> Reading
+pub fn read_net(
+    text: &[u8],
+    types: &mut [u32],
+    rows: &mut [u32],
+    due: &mut [i64],
+) -> Result<Counted, Refusal>
     ensures { ReadPromise text.now (tables_of types.old rows.old due.old) result (tables_of types.new rows.new due.new) }
 {
     let short = rooms::short_tables(types.len(), rows.len(), due.len());
-    match rooms::check_text(short, text.len()) {
-        Checking::Refused(r) => Reading::Refused(r),
-        Checking::Accepted => read_through(text, types, rows, due),
-    }
+    rooms::check_text(short, text.len())?;
+    read_through(text, types, rows, due)
 }
 
 // The refusal of a net given as tables: 7 also where an area of the caller's own is short, then entry by entry.
-pub fn check_tables(
-    short: bool,
-    types: &[u32],
-    rows: &[u32],
-    due: &[i64],
-    type_count: usize,
-    row_count: usize,
-) -> Checking
-    ensures { result ≡ checking (net_refusal short (tabled (tables_of types.now rows.now due.now) (counts_of type_count row_count))) }
+pub fn check_tables(short: bool, net: &Net<'_>) -> Result<(), Refusal>
+    ensures { result ≡ checking (net_refusal short (lent_net net.now)) }
 {
-    if rooms::short_tables(types.len(), rows.len(), due.len()) {
-        return Checking::Refused(Refusal::Short);
+    if rooms::short_tables(net.types.len(), net.rows.len(), net.due.len()) || short {
+        return Err(Refusal::Short);
     }
-    if short {
-        return Checking::Refused(Refusal::Short);
-    }
-    take_net(types, rows, due, type_count, row_count)
+    take_net(net)
 }
 
 // A net given as tables, checked.
-pub fn check_net(
-    types: &[u32],
-    rows: &[u32],
-    due: &[i64],
-    type_count: usize,
-    row_count: usize,
-) -> Checking
-    ensures { CheckPromise (tabled (tables_of types.now rows.now due.now) (counts_of type_count row_count)) result }
+pub fn check_net(net: &Net<'_>) -> Result<(), Refusal>
+    ensures { CheckPromise (lent_net net.now) result }
 {
-    check_tables(false, types, rows, due, type_count, row_count)
+    check_tables(false, net)
 }

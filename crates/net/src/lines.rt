@@ -8,115 +8,106 @@ ghost use Rattle.entries.specs.Lines.{capped, line_for, letter_of};
 use super::stated::{pin_read, repeater_read, wire_read, word_of};
 use checks::Line;
 use rules::{Ohm, Refusal};
-use text::{Field, SignedField, field_at, number_at, signed_at};
+use text::{Field, field_at, number_at, signed_at};
 
-fn type_line(line: &[u8], place: u32) -> Line
+fn type_line(line: &[u8], place: u32) -> Result<Line, Refusal>
     ensures { result ≡ line_for place (capped (type_line (fields_from line.now 2))) }
 {
     let Field::Number(input, at) = number_at(line, 2) else {
-        return Line::Refused(Refusal::Form(place));
+        return Err(Refusal::Form(place));
     };
     let Field::Number(resistance, at) = number_at(line, at) else {
-        return Line::Refused(Refusal::Form(place));
+        return Err(Refusal::Form(place));
     };
     let Field::Number(own, at) = number_at(line, at) else {
-        return Line::Refused(Refusal::Form(place));
+        return Err(Refusal::Form(place));
     };
     if at <= line.len() {
-        return Line::Refused(Refusal::Form(place));
+        return Err(Refusal::Form(place));
     }
-    Line::Repeater(repeater_read(input, resistance, own))
+    Ok(Line::Repeater(repeater_read(input, resistance, own)))
 }
 
-fn driver_line(line: &[u8], place: u32) -> Line
+fn driver_line(line: &[u8], place: u32) -> Result<Line, Refusal>
     ensures { result ≡ line_for place (capped (driver_line (fields_from line.now 2))) }
 {
     let Field::Number(resistance, at) = number_at(line, 2) else {
-        return Line::Refused(Refusal::Form(place));
+        return Err(Refusal::Form(place));
     };
     if at <= line.len() {
-        return Line::Refused(Refusal::Form(place));
+        return Err(Refusal::Form(place));
     }
-    let ohms = word_of(resistance);
-    Line::Driver(Ohm(ohms))
+    Ok(Line::Driver(Ohm(word_of(resistance))))
 }
 
-fn point_line(line: &[u8], place: u32) -> Line
+fn point_line(line: &[u8], place: u32) -> Result<Line, Refusal>
     ensures { result ≡ line_for place (capped (point_line (fields_from line.now 2))) }
 {
     let Field::Number(parent, at) = number_at(line, 2) else {
-        return Line::Refused(Refusal::Form(place));
+        return Err(Refusal::Form(place));
     };
     let Field::Number(resistance, at) = number_at(line, at) else {
-        return Line::Refused(Refusal::Form(place));
+        return Err(Refusal::Form(place));
     };
     let Field::Number(capacitance, at) = number_at(line, at) else {
-        return Line::Refused(Refusal::Form(place));
+        return Err(Refusal::Form(place));
     };
     let Field::Number(site, at) = number_at(line, at) else {
-        return Line::Refused(Refusal::Form(place));
+        return Err(Refusal::Form(place));
     };
     if at <= line.len() {
-        return Line::Refused(Refusal::Form(place));
+        return Err(Refusal::Form(place));
     }
-    Line::Point(wire_read(parent, resistance, capacitance, site))
+    Ok(Line::Point(wire_read(parent, resistance, capacitance, site)))
 }
 
-fn sink_line(line: &[u8], place: u32) -> Line
+fn sink_line(line: &[u8], place: u32) -> Result<Line, Refusal>
     ensures { result ≡ line_for place (capped (sink_line (fields_from line.now 2))) }
 {
     let Field::Number(parent, at) = number_at(line, 2) else {
-        return Line::Refused(Refusal::Form(place));
+        return Err(Refusal::Form(place));
     };
     let Field::Number(resistance, at) = number_at(line, at) else {
-        return Line::Refused(Refusal::Form(place));
+        return Err(Refusal::Form(place));
     };
     let Field::Number(capacitance, at) = number_at(line, at) else {
-        return Line::Refused(Refusal::Form(place));
+        return Err(Refusal::Form(place));
     };
     let Field::Number(site, at) = number_at(line, at) else {
-        return Line::Refused(Refusal::Form(place));
+        return Err(Refusal::Form(place));
     };
     let Field::Number(load, at) = number_at(line, at) else {
-        return Line::Refused(Refusal::Form(place));
+        return Err(Refusal::Form(place));
     };
-    let SignedField::Number(due, at) = signed_at(line, at) else {
-        return Line::Refused(Refusal::Form(place));
+    let Field::Number(due, at) = signed_at(line, at) else {
+        return Err(Refusal::Form(place));
     };
     if at <= line.len() {
-        return Line::Refused(Refusal::Form(place));
+        return Err(Refusal::Form(place));
     }
     let wire = wire_read(parent, resistance, capacitance, site);
-    Line::Sink(wire, pin_read(load, due))
+    Ok(Line::Sink(wire, pin_read(load, due)))
 }
 
-// The letter that a line starts with, where its first field is one byte.
+// The letter that a line starts with, where its first field is one byte; else 0, which is no letter (`letter_of` of the definitions).
 fn letter_of(line: &[u8]) -> u8
     ensures { result ≡ letter_of (field_at line.now 0) }
 {
-    let first = field_at(line, 0);
-    if first.len() == 1 {
-        return first[0];
+    match field_at(line, 0) {
+        [letter] => *letter,
+        _ => 0,
     }
-    0
 }
 
 // What a line states, by its letter.
-pub fn read_line(line: &[u8], place: u32) -> Line
+pub fn read_line(line: &[u8], place: u32) -> Result<Line, Refusal>
     ensures { result ≡ line_for place (capped (line_of (parted tab line.now))) }
 {
-    let letter = letter_of(line);
-    if letter == b'T' {
-        return type_line(line, place);
+    match letter_of(line) {
+        b'T' => type_line(line, place),
+        b'D' => driver_line(line, place),
+        b'W' => point_line(line, place),
+        b'S' => sink_line(line, place),
+        _ => Err(Refusal::Form(place)),
     }
-    if letter == b'D' {
-        return driver_line(line, place);
-    }
-    if letter == b'W' {
-        return point_line(line, place);
-    }
-    if letter == b'S' {
-        return sink_line(line, place);
-    }
-    Line::Refused(Refusal::Form(place))
 }

@@ -8,34 +8,42 @@ ghost use Rattle.rules.specs.Tables.{tables_of};
 use super::lines::read_line;
 use checks::Passed;
 use checks::lines::{check_line, place_of};
-use ending::{Taking, finish};
+use ending::finish;
 use entries::areas::store_line;
-use entries::copies::{copy_times, copy_words};
+use entries::copies::copy_start;
 use entries::counts::passed_with;
 use rooms::{ROW_WORDS, ROWS_AREA, ROWS_ROOM, TYPE_WORDS, TYPES_AREA};
-use rules::{Checking, Reading, Refusal};
+use rules::{Counted, Refusal};
 use text::stretch_end;
 
 const LINE_FEED: u8 = b'\n';
 
+// The three areas are lent as slices: a struct of three `&mut` would need a clause for each, in every contract, that it is still the same.
+
 // One line: read, checked and stored, or refused.
-fn take_line(line: &[u8], types: &mut [u32], rows: &mut [u32], due: &mut [i64], n: Passed) -> Taking
+fn take_line(
+    line: &[u8],
+    types: &mut [u32],
+    rows: &mut [u32],
+    due: &mut [i64],
+    n: Passed,
+) -> Result<Passed, Refusal>
     requires { FewPassed n × Rooms types.old rows.old due.old }
     ensures { LineTaken line.now types.old rows.old due.old n result types.new rows.new due.new }
 {
-    let place = place_of(n);
-    let read = read_line(line, place);
-    match check_line(rows, n, read) {
-        Checking::Refused(r) => Taking::Refused(r),
-        Checking::Accepted => {
-            store_line(types, rows, due, n, read);
-            Taking::Taken(passed_with(n, read))
-        }
-    }
+    let read = read_line(line, place_of(n))?;
+    check_line(rows, n, read)?;
+    store_line(types, rows, due, n, read);
+    Ok(passed_with(n, read))
 }
 
-// All lines, and then the checks after the last.
-pub fn read_lines(text: &[u8], types: &mut [u32], rows: &mut [u32], due: &mut [i64]) -> Taking
+// All lines, and then the checks after the last. A line is found by where the one before it ends, so the place is no index that is counted.
+pub fn read_lines(
+    text: &[u8],
+    types: &mut [u32],
+    rows: &mut [u32],
+    due: &mut [i64],
+) -> Result<Passed, Refusal>
     requires { Rooms types.old rows.old due.old }
     ensures { AllTaken text.now result types.new rows.new due.new }
 {
@@ -48,63 +56,33 @@ pub fn read_lines(text: &[u8], types: &mut [u32], rows: &mut [u32], due: &mut [i
     while at < text.len() {
         let end = stretch_end(text, at, LINE_FEED);
         if end == text.len() {
-            return Taking::Refused(Refusal::Form(place_of(n)));
+            return Err(Refusal::Form(place_of(n)));
         }
-        match take_line(&text[at..end], types, rows, due, n) {
-            Taking::Refused(r) => return Taking::Refused(r),
-            Taking::Taken(m) => {
-                n = m;
-                at = end + 1;
-            }
-        }
+        n = take_line(&text[at..end], types, rows, due, n)?;
+        at = end + 1;
     }
     finish(rows, n)
 }
 
 // A text read into areas of one's own, and from there into the lent ones where nothing is refused.
-fn read_into(
+pub fn read_through(
     text: &[u8],
-    type_words: &mut [u32],
-    row_words: &mut [u32],
-    times: &mut [i64],
     types: &mut [u32],
     rows: &mut [u32],
     due: &mut [i64],
-) -> Reading
-    requires { Rooms type_words.old row_words.old times.old × Rooms types.old rows.old due.old }
-    ensures { ReadAfter text.now (tables_of types.old rows.old due.old) result (tables_of types.new rows.new due.new) }
-{
-    match read_lines(text, type_words, row_words, times) {
-        Taking::Refused(r) => Reading::Refused(r),
-        Taking::Taken(n) => {
-            let type_count = n.types;
-            let row_count = n.rows;
-            copy_words(type_words, types, TYPE_WORDS * type_count);
-            copy_words(row_words, rows, ROW_WORDS * row_count);
-            copy_times(times, due, row_count);
-            Reading::Read {
-                types: type_count as u32,
-                rows: row_count as u32,
-            }
-        }
-    }
-}
-
-// A text read through areas of its own.
-pub fn read_through(text: &[u8], types: &mut [u32], rows: &mut [u32], due: &mut [i64]) -> Reading
+) -> Result<Counted, Refusal>
     requires { Rooms types.old rows.old due.old }
     ensures { ReadAfter text.now (tables_of types.old rows.old due.old) result (tables_of types.new rows.new due.new) }
 {
     let mut type_words = [0u32; TYPES_AREA];
     let mut row_words = [0u32; ROWS_AREA];
     let mut times = [0i64; ROWS_ROOM];
-    read_into(
-        text,
-        &mut type_words[..],
-        &mut row_words[..],
-        &mut times[..],
-        types,
-        rows,
-        due,
-    )
+    let n = read_lines(text, &mut type_words, &mut row_words, &mut times)?;
+    copy_start(&type_words, types, TYPE_WORDS * n.types);
+    copy_start(&row_words, rows, ROW_WORDS * n.rows);
+    copy_start(&times, due, n.rows);
+    Ok(Counted {
+        types: n.types as u32,
+        rows: n.rows as u32,
+    })
 }

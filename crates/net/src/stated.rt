@@ -11,10 +11,7 @@ use rules::{Femtofarad, Femtosecond, Ohm, Pin};
 pub fn word_of(n: u64) -> u32
     ensures { result ≡ word n }
 {
-    if n < WORD_CAP {
-        return n as u32;
-    }
-    WORD_CAP as u32
+    n.min(WORD_CAP) as u32
 }
 
 pub fn repeater_read(input: u64, resistance: u64, own: u64) -> Buffer
@@ -23,27 +20,24 @@ pub fn repeater_read(input: u64, resistance: u64, own: u64) -> Buffer
     repeater(word_of(input), word_of(resistance), word_of(own))
 }
 
+#[tactic(auto, unfolding(entries::specs::Lines::wire_of))]
 pub fn wire_read(parent: u64, resistance: u64, capacitance: u64, site: u64) -> Wire
     ensures { result ≡ wire_of (word parent) (word resistance) (word capacitance) (word site) }
 {
-    let above = word_of(parent);
-    let ohms = word_of(resistance);
-    let farads = word_of(capacitance);
-    let sites = word_of(site);
     Wire {
-        parent: above,
-        resistance: Ohm(ohms),
-        capacitance: Femtofarad(farads),
-        site: sites,
+        parent: word_of(parent),
+        resistance: Ohm(word_of(resistance)),
+        capacitance: Femtofarad(word_of(capacitance)),
+        site: word_of(site),
     }
 }
 
+#[tactic(auto, unfolding(entries::specs::Lines::pin_of))]
 pub fn pin_read(load: u64, due: i64) -> Pin
     ensures { result ≡ pin_of (word load) due }
 {
-    let farads = word_of(load);
     Pin {
-        load: Femtofarad(farads),
+        load: Femtofarad(word_of(load)),
         due: Femtosecond(due),
     }
 }

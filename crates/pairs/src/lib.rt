@@ -17,8 +17,7 @@ pub fn time_before(time: Femtosecond, r: Ohm, load: Femtofarad) -> Femtosecond
     requires { (mag time.0 < near) × ((r.0 ≤ most_ohms) × (load.0 ≤ most_load)) }
     ensures { result.0 ≡ time.0 ⊖ (r.0 * load.0) }
 {
-    let d = units::delay(r, load);
-    units::less(time, d)
+    units::less(time, units::delay(r, load))
 }
 
 // The time before a repeater, which has a delay of its own too.
@@ -32,8 +31,7 @@ pub fn time_before_repeater(
     requires r_le_most_ohms { (r.0 ≤ most_ohms) × (load.0 ≤ most_load) }
     ensures { result.0 ≡ time.0 ⊖ (mag own.0 + r.0 * load.0) }
 {
-    let t = units::less(time, own);
-    time_before(t, r, load)
+    time_before(units::less(time, own), r, load)
 }
 
 // The load and the time of a candidate.
@@ -43,68 +41,51 @@ pub struct Pair {
     pub time: Femtosecond,
 }
 
-// Two candidates where branches meet: the earlier of their times, and their loads together.
-pub fn joined(load: Femtofarad, time: Femtosecond, other: Femtofarad, second: Femtosecond) -> Pair
-    requires { load.0 + other.0 ≤ most_load }
-    ensures time { result.time.0 ≡ minℤ time.0 second.0 }
-    ensures load { result.load.0 ≡ load.0 + other.0 }
-{
-    let both = units::together(load, other);
-    let least = units::earlier(time, second);
-    Pair {
-        load: both,
-        time: least,
+impl Pair {
+    // Two candidates where branches meet: the earlier of their times, and their loads together.
+    pub fn joined(self, other: Pair) -> Pair
+        requires { self.load.0 + other.load.0 ≤ most_load }
+        ensures time { result.time.0 ≡ minℤ self.time.0 other.time.0 }
+        ensures load { result.load.0 ≡ self.load.0 + other.load.0 }
+    {
+        Pair {
+            load: units::together(self.load, other.load),
+            time: units::earlier(self.time, other.time),
+        }
+    }
+
+    // Whether it has less of both than the other.
+    #[tactic(auto, unfolding(crate::specs::Stands::is_below))]
+    pub fn is_below(self, other: Pair) -> bool
+        ensures { result ≡ is_below self.load.0 self.time.0 other.load.0 other.time.0 }
+    {
+        self.load.0 < other.load.0 && units::is_later(other.time, self.time)
+    }
+
+    // Whether its load is no greater than the other's and its time no less.
+    #[tactic(auto, unfolding(crate::specs::Stands::is_covering))]
+    pub fn is_covering(self, other: Pair) -> bool
+        ensures { result ≡ is_covering self.load.0 self.time.0 other.load.0 other.time.0 }
+    {
+        self.load.0 <= other.load.0 && !units::is_later(other.time, self.time)
+    }
+
+    // Whether the other covers it.
+    #[tactic(auto, unfolding(crate::specs::Stands::is_covered))]
+    pub fn is_covered(self, other: Pair) -> bool
+        ensures { result ≡ is_covered self.load.0 self.time.0 other.load.0 other.time.0 }
+    {
+        other.is_covering(self)
     }
 }
 
-// 1 if the second time is later than the first, or else 0: how much longer a list is with the second kept after the first.
+// 1 if the second time is later than the first, or else 0: how much longer a list is with the second kept after the first. A number, so
+// that a walk over a list adds it and has no branch there.
 pub fn later(first: Femtosecond, second: Femtosecond) -> usize
     ensures small { result ≤ 1 }
     ensures value { result ≡ cond (lt_z first.0 second.0) 1 0 }
 {
-    if units::is_later(second, first) { 1 } else { 0 }
-}
-
-// Whether the first pair has less of both.
-pub fn is_below(load: Femtofarad, time: Femtosecond, other: Femtofarad, later: Femtosecond) -> bool
-    ensures { result ≡ is_below load.0 time.0 other.0 later.0 }
-{
-    let a = load.0;
-    let b = other.0;
-    if a < b {
-        return units::is_later(later, time);
-    }
-    false
-}
-
-// Whether the first pair's load is no greater and its time no less.
-#[tactic(auto, unfolding(crate::specs::Stands::is_covering))]
-pub fn is_covering(
-    load: Femtofarad,
-    time: Femtosecond,
-    other: Femtofarad,
-    earlier: Femtosecond,
-) -> bool
-    ensures { result ≡ is_covering load.0 time.0 other.0 earlier.0 }
-{
-    let a = load.0;
-    let b = other.0;
-    if a <= b {
-        return !units::is_later(earlier, time);
-    }
-    false
-}
-
-// Whether the second pair covers the first.
-pub fn is_covered(
-    load: Femtofarad,
-    time: Femtosecond,
-    other: Femtofarad,
-    later: Femtosecond,
-) -> bool
-    ensures { result ≡ is_covered load.0 time.0 other.0 later.0 }
-{
-    is_covering(other, later, load, time)
+    usize::from(units::is_later(second, first))
 }
 
 // A place of a list, and what the candidate there is worth.
@@ -119,12 +100,9 @@ pub fn better(best: Choice, i: usize, value: Femtosecond) -> Choice
     ensures place { result.at ≡ cond (lt_z best.value.0 value.0) i best.at }
     ensures value { result.value.0 ≡ cond (lt_z best.value.0 value.0) value.0 best.value.0 }
 {
-    let worth = best.value;
-    if units::is_later(value, worth) {
-        return Choice {
-            at: i,
-            value: value,
-        };
+    if units::is_later(value, best.value) {
+        Choice { at: i, value }
+    } else {
+        best
     }
-    best
 }

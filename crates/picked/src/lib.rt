@@ -8,14 +8,7 @@ ghost use Rattle.columns.specs.Run.{run};
 ghost use Rattle.picked.specs.Picked.{four_at, Ready, Choice};
 
 use rooms::PLACEMENT_ROOM;
-use rules::{Femtofarad, Femtosecond};
-
-// The slack of the placement chosen, and the load on the driver.
-#[derive(Clone, Copy)]
-pub struct Timing {
-    pub slack: Femtosecond,
-    pub load: Femtofarad,
-}
+use rules::{Femtofarad, Net, Timed};
 
 // The four words of candidate b, put at the start of a placement.
 fn put_placement(words: &[u64], b: usize, placement: &mut [u64])
@@ -29,27 +22,23 @@ fn put_placement(words: &[u64], b: usize, placement: &mut [u64])
     placement[3] = words[at + 3];
 }
 
-// Of the list at the driver the first greatest behind the driver, its placement put down.
+// Of the list at the driver the first greatest behind the driver, its placement put down: its slack, and the load on the driver.
 pub fn choose(
-    rows: &[u32],
-    due: &[i64],
+    net: &Net<'_>,
     loads: &[u32],
     times: &[i64],
     words: &[u64],
     len: usize,
     placement: &mut [u64],
-) -> Timing
-    requires { Ready rows.now due.now loads.now times.now words.now len placement.old }
-    ensures { Choice rows.now due.now (run loads.now times.now words.now) len placement.old placement.new result.slack.0 result.load.0 }
+) -> Timed
+    requires { Ready net.now.rows.now net.now.due.now loads.now times.now words.now len placement.old }
+    ensures { Choice net.now.rows.now net.now.due.now (run loads.now times.now words.now) len placement.old placement.new result.slack.0 result.load.0 }
 {
-    let driver = rows::row_at(rows, due, 0);
-    let r = driver.resistance;
-    let best = columns::choices::best_at(loads, times, 0, len, r);
-    let b = best.at;
-    let slack = best.value;
-    put_placement(words, b, placement);
-    Timing {
-        slack,
-        load: Femtofarad(loads[b]),
+    let driver = rows::row_at(net, 0);
+    let best = columns::choices::best_at(loads, times, 0, len, driver.resistance);
+    put_placement(words, best.at, placement);
+    Timed {
+        slack: best.value,
+        load: Femtofarad(loads[best.at]),
     }
 }

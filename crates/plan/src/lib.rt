@@ -1,151 +1,155 @@
-// Planning a net: what is refused, and the work areas lent on at exactly their room.
+// Planning a net: what is refused, and the work areas lent on at exactly their room. Of a longer work area the part beyond its room is not
+// lent on.
 #![tactic(auto)]
 
-ghost use Rattle.std.specs.Prelude.{◌≤◌, length};
-ghost use Rattle.rules.specs.Quantities.{placement_room};
-ghost use Rattle.rules.specs.Promises.{CheckPromise, PlanPromise, ListPromise, LoadsPromise, tabled};
+ghost use Rattle.std.specs.Prelude.{◌≡◌, ◌≤◌, ◌<◌, length, Ok};
+ghost use Rattle.rules.specs.Quantities.{placement_room, list_room};
+ghost use Rattle.rules.specs.Promises.{PlanPromise, ListPromise, LoadsPromise, list_refusal, lent_net};
 ghost use Rattle.rules.specs.Areas.{columns, columns_of, lent_of, list_areas, loads_areas, plan_areas};
-ghost use Rattle.rules.specs.Tables.{tables_of, counts_of, table_entries};
+ghost use Rattle.rules.specs.Tables.{net_tables, net_counts, table_entries};
 ghost use Rattle.rules.specs.Answers.{plan_figures};
 ghost use Rattle.laws.specs.Checked.{Passed};
-ghost use Rattle.laws.specs.Picked.{Picks};
+ghost use Rattle.laws.specs.Picked.{Picks, PickedOf};
 ghost use Rattle.columns.specs.Made.{Room};
+ghost use Rattle.checks.specs.Checks.{checking};
 
-use rooms::{PLACEMENT_ROOM, WORK_ROOM};
-use rules::{Checking, Listing, Planning, Refusal};
+use rooms::{WORDS_AREA, WORK_ROOM};
+use rules::{Net, Refusal, Timed};
 
-mod display;
-mod listing;
-
-// Of tables that were accepted. Of a longer work area the part beyond its room is not lent on.
+// Of a net that was accepted, in areas that have their room.
 fn plan_accepted(
-    types: &[u32],
-    rows: &[u32],
-    due: &[i64],
-    count: usize,
-    n: usize,
+    net: &Net<'_>,
     placement: &mut [u64],
     loads: &mut [u32],
     times: &mut [i64],
     words: &mut [u64],
-) -> Planning
-    requires passed { Passed (tables_of types.now rows.now due.now) (counts_of count n) }
-    requires placement_room_in_bounds { (placement_room ≤ length placement.old) × Room loads.old times.old words.old }
-    ensures planned { PlanPromise columns (tabled (tables_of types.now rows.now due.now) (counts_of count n)) (plan_areas placement.old (columns_of loads.old times.old words.old)) result (plan_areas placement.new (columns_of loads.new times.new words.new)) }
-    ensures picked { Picks (table_entries (tables_of types.now rows.now due.now) (counts_of count n)) placement.old placement.new (plan_figures result).number }
+) -> Timed
+    requires passed { Passed (net_tables net.now) (net_counts net.now) }
+    requires placement_room_in_bounds { placement_room ≤ length placement.old }
+    requires room { Room loads.old times.old words.old }
+    ensures planned { PlanPromise columns (lent_net net.now) (plan_areas placement.old (columns_of loads.old times.old words.old)) (Ok result) (plan_areas placement.new (columns_of loads.new times.new words.new)) }
+    ensures picked { PickedOf (table_entries (net_tables net.now) (net_counts net.now)) placement.old placement.new }
 {
-    let room = WORK_ROOM;
-    let wide = PLACEMENT_ROOM * WORK_ROOM;
-    let t = chosen::plan_in(
-        types,
-        rows,
-        due,
-        count,
-        n,
+    chosen::plan_in(
+        net,
         placement,
-        &mut loads[..room],
-        &mut times[..room],
-        &mut words[..wide],
-    );
-    let slack = t.slack;
-    let load = t.load;
-    Planning::Planned { slack, load }
-}
-
-// Of tables that were checked: refusal 7 for the entry's own areas comes first.
-fn plan_checked(
-    checked: Checking,
-    types: &[u32],
-    rows: &[u32],
-    due: &[i64],
-    count: usize,
-    n: usize,
-    placement: &mut [u64],
-    loads: &mut [u32],
-    times: &mut [i64],
-    words: &mut [u64],
-) -> Planning
-    requires { CheckPromise (tabled (tables_of types.now rows.now due.now) (counts_of count n)) checked }
-    ensures planned { PlanPromise columns (tabled (tables_of types.now rows.now due.now) (counts_of count n)) (plan_areas placement.old (columns_of loads.old times.old words.old)) result (plan_areas placement.new (columns_of loads.new times.new words.new)) }
-    ensures picked { Picks (table_entries (tables_of types.now rows.now due.now) (counts_of count n)) placement.old placement.new (plan_figures result).number }
-{
-    let short = rooms::short_placement(placement.len());
-    if short {
-        return Planning::Refused(Refusal::Short);
-    }
-    let short = rooms::short_work(loads.len(), times.len(), words.len());
-    if short {
-        return Planning::Refused(Refusal::Short);
-    }
-    match checked {
-        Checking::Refused(r) => Planning::Refused(r),
-        Checking::Accepted => plan_accepted(
-            types, rows, due, count, n, placement, loads, times, words,
-        ),
-    }
+        &mut loads[..WORK_ROOM],
+        &mut times[..WORK_ROOM],
+        &mut words[..WORDS_AREA],
+    )
 }
 
 // A placement of greatest slack, and of those the least load on the driver; its slack and that load.
 pub fn plan_net(
-    types: &[u32],
-    rows: &[u32],
-    due: &[i64],
-    type_count: usize,
-    row_count: usize,
+    net: &Net<'_>,
     placement: &mut [u64],
     loads: &mut [u32],
     times: &mut [i64],
     words: &mut [u64],
-) -> Planning
-    ensures planned { PlanPromise columns (tabled (tables_of types.now rows.now due.now) (counts_of type_count row_count)) (plan_areas placement.old (columns_of loads.old times.old words.old)) result (plan_areas placement.new (columns_of loads.new times.new words.new)) }
-    ensures picked { Picks (table_entries (tables_of types.now rows.now due.now) (counts_of type_count row_count)) placement.old placement.new (plan_figures result).number }
+) -> Result<Timed, Refusal>
+    ensures planned { PlanPromise columns (lent_net net.now) (plan_areas placement.old (columns_of loads.old times.old words.old)) result (plan_areas placement.new (columns_of loads.new times.new words.new)) }
+    ensures picked { Picks (table_entries (net_tables net.now) (net_counts net.now)) placement.old placement.new (plan_figures result).number }
 {
-    let checked = net::check_net(types, rows, due, type_count, row_count);
-    plan_checked(
-        checked, types, rows, due, type_count, row_count, placement, loads, times, words,
-    )
+    let own = rooms::short_placement(placement.len());
+    let work = rooms::short_work(loads.len(), times.len(), words.len());
+    net::check_tables(own | work, net)?;
+    Ok(plan_accepted(net, placement, loads, times, words))
 }
 
-// The unbeaten pairs at a row, written to the lent areas; how many there are.
-pub fn list_at(
-    types: &[u32],
-    rows: &[u32],
-    due: &[i64],
-    type_count: usize,
-    row_count: usize,
+// What a list, or its loads alone, is refused for: 7 for an area that is lent comes first, and 8 last.
+fn judged(short: bool, net: &Net<'_>, row: usize) -> Result<(), Refusal>
+    ensures { result ≡ checking (list_refusal short (lent_net net.now) row) }
+{
+    net::check_tables(short, net)?;
+    if net.row_count <= row {
+        return Err(Refusal::NoRow);
+    }
+    Ok(())
+}
+
+// Of a net that was accepted, in areas that have their room.
+fn list_accepted(
+    net: &Net<'_>,
     row: usize,
     list_loads: &mut [u32],
     list_times: &mut [i64],
     loads: &mut [u32],
     times: &mut [i64],
     words: &mut [u64],
-) -> Listing
-    ensures { ListPromise columns (tabled (tables_of types.now rows.now due.now) (counts_of type_count row_count)) row (list_areas (lent_of list_loads.old list_times.old) (columns_of loads.old times.old words.old)) result (list_areas (lent_of list_loads.new list_times.new) (columns_of loads.new times.new words.new)) }
+) -> u32
+    requires passed { Passed (net_tables net.now) (net_counts net.now) }
+    requires row_lt_n { (row < net.now.row_count) × ((list_room ≤ length list_loads.old) × (list_room ≤ length list_times.old)) }
+    requires room { Room loads.old times.old words.old }
+    ensures { ListPromise columns (lent_net net.now) row (list_areas (lent_of list_loads.old list_times.old) (columns_of loads.old times.old words.old)) (Ok result) (list_areas (lent_of list_loads.new list_times.new) (columns_of loads.new times.new words.new)) }
 {
-    let checked = net::check_net(types, rows, due, type_count, row_count);
-    listing::list_checked(
-        checked, types, rows, due, type_count, row_count, row, list_loads, list_times, loads,
-        times, words,
-    )
+    let length = chosen::list_in(
+        net,
+        row,
+        list_loads,
+        list_times,
+        &mut loads[..WORK_ROOM],
+        &mut times[..WORK_ROOM],
+        &mut words[..WORDS_AREA],
+    );
+    length as u32
 }
 
-// The loads alone of the unbeaten pairs at a row, written to the lent area; how many there are. What `list_at` gives, without the times.
-pub fn loads_at(
-    types: &[u32],
-    rows: &[u32],
-    due: &[i64],
-    type_count: usize,
-    row_count: usize,
+// The unbeaten pairs at a row, written to the lent areas; how many there are.
+pub fn list_at(
+    net: &Net<'_>,
+    row: usize,
+    list_loads: &mut [u32],
+    list_times: &mut [i64],
+    loads: &mut [u32],
+    times: &mut [i64],
+    words: &mut [u64],
+) -> Result<u32, Refusal>
+    ensures { ListPromise columns (lent_net net.now) row (list_areas (lent_of list_loads.old list_times.old) (columns_of loads.old times.old words.old)) result (list_areas (lent_of list_loads.new list_times.new) (columns_of loads.new times.new words.new)) }
+{
+    let own = rooms::short_list(list_loads.len(), list_times.len());
+    let work = rooms::short_work(loads.len(), times.len(), words.len());
+    judged(own | work, net, row)?;
+    Ok(list_accepted(net, row, list_loads, list_times, loads, times, words))
+}
+
+// Of a net that was accepted, in areas that have their room.
+fn loads_accepted(
+    net: &Net<'_>,
     row: usize,
     list_loads: &mut [u32],
     loads: &mut [u32],
     times: &mut [i64],
     words: &mut [u64],
-) -> Listing
-    ensures { LoadsPromise columns (tabled (tables_of types.now rows.now due.now) (counts_of type_count row_count)) row (loads_areas list_loads.old (columns_of loads.old times.old words.old)) result (loads_areas list_loads.new (columns_of loads.new times.new words.new)) }
+) -> u32
+    requires passed { Passed (net_tables net.now) (net_counts net.now) }
+    requires row_lt_n { (row < net.now.row_count) × (list_room ≤ length list_loads.old) }
+    requires room { Room loads.old times.old words.old }
+    ensures { LoadsPromise columns (lent_net net.now) row (loads_areas list_loads.old (columns_of loads.old times.old words.old)) (Ok result) (loads_areas list_loads.new (columns_of loads.new times.new words.new)) }
 {
-    let checked = net::check_net(types, rows, due, type_count, row_count);
-    display::loads_checked(
-        checked, types, rows, due, type_count, row_count, row, list_loads, loads, times, words,
-    )
+    let length = chosen::loads_in(
+        net,
+        row,
+        list_loads,
+        &mut loads[..WORK_ROOM],
+        &mut times[..WORK_ROOM],
+        &mut words[..WORDS_AREA],
+    );
+    length as u32
+}
+
+// The loads alone of the unbeaten pairs at a row, written to the lent area; how many there are. What `list_at` gives, without the times.
+pub fn loads_at(
+    net: &Net<'_>,
+    row: usize,
+    list_loads: &mut [u32],
+    loads: &mut [u32],
+    times: &mut [i64],
+    words: &mut [u64],
+) -> Result<u32, Refusal>
+    ensures { LoadsPromise columns (lent_net net.now) row (loads_areas list_loads.old (columns_of loads.old times.old words.old)) result (loads_areas list_loads.new (columns_of loads.new times.new words.new)) }
+{
+    let own = rooms::short_area(list_loads.len());
+    let work = rooms::short_work(loads.len(), times.len(), words.len());
+    judged(own | work, net, row)?;
+    Ok(loads_accepted(net, row, list_loads, loads, times, words))
 }

@@ -1,11 +1,9 @@
 -- The promise of the entries over a run of records: the storage, and what the functions below the entries give. Assumes nothing.
-use Rattle.std.specs.Prelude.{◌≡◌, Bool, true, false, not, cond, List, [], ◌∷◌, ◌++◌, ℕ, ◌*◌, ◌≤◌, T, ltb, ℤ, pos, length, get_or, drop, replicate}
-use Rattle.rules.specs.declared.Checking.{Checking}
-use Rattle.rules.specs.declared.Checking.TheVariants.{Accepted, Refused}
-use Rattle.rules.specs.declared.Planning.{Planning}
-use Rattle.rules.specs.declared.Planning.TheVariants.{Planned}
-use Rattle.rules.specs.declared.Planning.TheVariants.{Refused as NotPlanned}
+use Rattle.std.specs.Prelude.{◌≡◌, Bool, true, false, not, cond, List, [], ◌∷◌, ◌++◌, ℕ, ◌*◌, ◌≤◌, T, ltb, ℤ, pos, length, get_or, drop, replicate, Result, Ok, Err}
+use Rattle.rules.specs.declared.Net.{Net}
+use Rattle.rules.specs.declared.Refusal.{Refusal}
 use Rattle.rules.specs.declared.Refusal.TheVariants.{Short}
+use Rattle.rules.specs.declared.Timed.{Timed}
 use Rattle.rules.specs.Lists.{written}
 use Rattle.rules.specs.Quantities.{placement_room, work_room}
 use Rattle.rules.specs.Tables.{words_a_row, tables_of, counts_of}
@@ -69,33 +67,33 @@ pub record Chose (rows : List ℕ) (due : List ℤ) (types : List ℕ) (count n 
 abbrev pub four_of : List ℕ → List ℕ
 four_of words = get_or words 0 0 ∷ get_or words 1 0 ∷ get_or words 2 0 ∷ get_or words 3 0 ∷ []
 
-abbrev pub Told : Pass → (before after : List ℕ) → Planning → Type 0
-Told e before after r = (after ≡ written (four_of e.held.words) before) × (r ≡ Planned e.worth e.held.load)
+abbrev pub Told : Pass → (before after : List ℕ) → Result Timed Refusal → Type 0
+Told e before after r = (after ≡ written (four_of e.held.words) before) × (r ≡ Ok (record { slack = e.worth; load = e.held.load }))
 
 -- ---- refusals
-abbrev pub Verdict : (types rows : List ℕ) (due : List ℤ) (count n placement work : ℕ) → Checking → Type 0
+abbrev pub Verdict : (types rows : List ℕ) (due : List ℤ) (count n placement work : ℕ) → Result (Unit {0}) Refusal → Type 0
 Verdict types rows due count n placement work c =
-    cond (ltb placement placement_room) (c ≡ Refused Short) (cond (ltb work work_room) (c ≡ Refused Short) (CheckPromise (tabled (tables_of types rows due) (counts_of count n)) c))
+    cond (ltb placement placement_room) (c ≡ Err Short) (cond (ltb work work_room) (c ≡ Err Short) (CheckPromise (tabled (tables_of types rows due) (counts_of count n)) c))
 
-abbrev pub is_accepted : Checking → Bool
-is_accepted Accepted = true
-is_accepted (Refused r) = false
+abbrev pub is_accepted : Result (Unit {0}) Refusal → Bool
+is_accepted (Ok u) = true
+is_accepted (Err r) = false
 
-abbrev pub PlansIf : (rows : List ℕ) (due : List ℤ) (types : List ℕ) (count n : ℕ) (w : List Cand) → Checking → Type 0
+abbrev pub PlansIf : (rows : List ℕ) (due : List ℤ) (types : List ℕ) (count n : ℕ) (w : List Cand) → Result (Unit {0}) Refusal → Type 0
 PlansIf rows due types count n w c = cond (is_accepted c) (Plans rows due types count n w) (Unit {0})
 
-abbrev pub ChoseIf : (rows : List ℕ) (due : List ℤ) (types : List ℕ) (count n : ℕ) (w w' : List Cand) → Checking → Pass → Type 0
+abbrev pub ChoseIf : (rows : List ℕ) (due : List ℤ) (types : List ℕ) (count n : ℕ) (w w' : List Cand) → Result (Unit {0}) Refusal → Pass → Type 0
 ChoseIf rows due types count n w w' c e = cond (is_accepted c) (Chose rows due types count n w w' e) (w' ≡ w)
 
-abbrev pub FourIf : List ℕ → Checking → Type 0
+abbrev pub FourIf : List ℕ → Result (Unit {0}) Refusal → Type 0
 FourIf placement c = cond (is_accepted c) (placement_room ≤ length placement) (Unit {0})
 
-abbrev pub ToldIf : Checking → Pass → (before after : List ℕ) → Planning → Type 0
-ToldIf Accepted e before after r = Told e before after r
-ToldIf (Refused d) e before after r = (after ≡ before) × (r ≡ NotPlanned d)
+abbrev pub ToldIf : Result (Unit {0}) Refusal → Pass → (before after : List ℕ) → Result Timed Refusal → Type 0
+ToldIf (Ok u) e before after r = Told e before after r
+ToldIf (Err d) e before after r = (after ≡ before) × (r ≡ Err d)
 
 -- ---- what is asked and given only where nothing is refused
-module _ (A B : Type 0) (c : Checking) where
+module _ (A B : Type 0) (c : Result (Unit {0}) Refusal) where
   pub if-accepted : (b : Bool) → b ≡ is_accepted c → T b → cond (is_accepted c) A B → A
   if-accepted true e h x = rw (← e) at x
   if-accepted false e h x = absurd h
@@ -107,3 +105,19 @@ module _ (A B : Type 0) (c : Checking) where
   pub refused-if : (b : Bool) → b ≡ is_accepted c → T (not b) → B → cond (is_accepted c) A B
   refused-if true e h x = absurd h
   refused-if false e h x = rw (← e) x
+
+-- ---- of a net that is handed as one
+abbrev pub driver_in : Net → (len : ℕ) → Pass
+driver_in net len = driver_pass net.rows.now net.due.now len
+
+abbrev pub ChoosesIn : Net → (len : ℕ) (w : List Cand) → Type 0
+ChoosesIn net len w = Chooses net.rows.now net.due.now len w
+
+abbrev pub PlansIn : Net → List Cand → Type 0
+PlansIn net w = Plans net.rows.now net.due.now net.types.now net.type_count net.row_count w
+
+abbrev pub ChoseIn : Net → (w w' : List Cand) → Pass → Type 0
+ChoseIn net w w' e = Chose net.rows.now net.due.now net.types.now net.type_count net.row_count w w' e
+
+abbrev pub VerdictIn : Net → (placement work : ℕ) → Result (Unit {0}) Refusal → Type 0
+VerdictIn net placement work c = Verdict net.types.now net.rows.now net.due.now net.type_count net.row_count placement work c

@@ -6,7 +6,7 @@ ghost use Rattle.rules.specs.Refusals.{number_of, place_of};
 
 use rules::Refusal;
 
-// The refusal's number in the list of refusals.
+// The refusal's number in the list of refusals: a table of the paper, which `From` would not say.
 pub fn number_of(r: Refusal) -> u32
     ensures { result ≡ number_of r }
 {
@@ -22,7 +22,7 @@ pub fn number_of(r: Refusal) -> u32
     }
 }
 
-// The line it is given for, or 0.
+// The line it is given for, or 0: the paper's table too.
 pub fn place_of(r: Refusal) -> u32
     ensures { result ≡ place_of r }
 {

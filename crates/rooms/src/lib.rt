@@ -5,11 +5,10 @@ ghost use Rattle.std.specs.Prelude.{◌≡◌, ltb};
 ghost use Rattle.rules.specs.Quantities.{placement_room, list_room, work_room};
 ghost use Rattle.rooms.specs.Rooms.{short_tables_by, unread, short_by, short_list_by};
 
-use rules::{Checking, Refusal};
+use rules::Refusal;
 
 pub mod links;
 pub mod ranges;
-pub mod wide;
 pub mod words;
 
 // Bytes of a text.
@@ -48,28 +47,23 @@ pub const WORDS_AREA: usize = PLACEMENT_ROOM * WORK_ROOM;
 pub fn short_tables(types: usize, rows: usize, due: usize) -> bool
     ensures { result ≡ short_tables_by types rows due }
 {
-    if types < TYPES_AREA {
-        return true;
-    }
-    if rows < ROWS_AREA {
-        return true;
-    }
-    due < ROWS_ROOM
+    types < TYPES_AREA || rows < ROWS_AREA || due < ROWS_ROOM
 }
 
 // What a text is refused for before any line of it is read: 7 for an area that is lent, then its length.
-pub fn check_text(short: bool, bytes: usize) -> Checking
+pub fn check_text(short: bool, bytes: usize) -> Result<(), Refusal>
     ensures { result ≡ unread short bytes }
 {
-    let long = TEXT_ROOM < bytes;
     if short {
-        return Checking::Refused(Refusal::Short);
+        return Err(Refusal::Short);
     }
-    if long {
-        return Checking::Refused(Refusal::Room(0));
+    if TEXT_ROOM < bytes {
+        return Err(Refusal::Room(0));
     }
-    Checking::Accepted
+    Ok(())
 }
+
+// Each test of one length is a function of its own, since its contract names a room of `rules`: a const parameter would name it no plainer.
 
 // Whether a placement has fewer words than its four.
 pub fn short_placement(words: usize) -> bool
@@ -89,13 +83,7 @@ pub fn short_run(records: usize) -> bool
 pub fn short_work(loads: usize, times: usize, words: usize) -> bool
     ensures { result ≡ short_by loads times words }
 {
-    if loads < WORK_ROOM {
-        return true;
-    }
-    if times < WORK_ROOM {
-        return true;
-    }
-    words < WORDS_AREA
+    loads < WORK_ROOM || times < WORK_ROOM || words < WORDS_AREA
 }
 
 // Whether the loads or the times of a list have less than their room.
@@ -109,8 +97,5 @@ pub fn short_area(places: usize) -> bool
 pub fn short_list(loads: usize, times: usize) -> bool
     ensures { result ≡ short_list_by loads times }
 {
-    if short_area(loads) {
-        return true;
-    }
-    short_area(times)
+    short_area(loads) || short_area(times)
 }

@@ -4,110 +4,93 @@
 ghost use Rattle.std.specs.Prelude.{◌≡◌, ◌+◌, ◌*◌, ◌≤◌, ◌<◌, length, get_or};
 ghost use Rattle.rules.specs.Quantities.{rows_room};
 ghost use Rattle.rules.specs.Tables.{words_a_row};
-ghost use Rattle.rooms.specs.Links.{next_at, sites_at, links_room};
+ghost use Rattle.rooms.specs.Links.{next_at, sites_at};
 ghost use Rattle.laws.specs.Tabled.{row_at, rows_from};
 ghost use Rattle.rows.specs.Links.{Links, Earlier, Counted, Standing};
 
-use rooms::links::{NEXT_AT, SITES_AT};
+use rooms::ROW_WORDS;
+use rooms::links::{LINKS_ROOM, NEXT_AT, SITES_AT};
 use rooms::words::{ROW_CAPACITANCE, ROW_PARENT, ROW_PIN, ROW_RESISTANCE, ROW_SITE};
-use rooms::{ROW_WORDS, wide};
-use rules::{Femtofarad, Ohm, Row};
+use rules::{Femtofarad, Net, Ohm, Row};
 
 pub mod backward;
 
-pub fn row_at(rows: &[u32], due: &[i64], i: usize) -> Row
-    requires { (i < rows_room) × ((words_a_row * i + words_a_row ≤ length rows.now) × (i < length due.now)) }
-    ensures { result ≡ row_at rows.now due.now i }
+pub fn row_at(net: &Net<'_>, i: usize) -> Row
+    requires { (i < rows_room) × ((words_a_row * i + words_a_row ≤ length net.now.rows.now) × (i < length net.now.due.now)) }
+    ensures { result ≡ row_at net.now.rows.now net.now.due.now i }
 {
+    let rows = net.rows;
     let at = ROW_WORDS * i;
-    let when = due[i];
-    let kind = kinds::kind_of(rows[at], rows[at + ROW_PIN], when);
-    let parent = rows[at + ROW_PARENT];
-    let site = rows[at + ROW_SITE] == 1;
     Row {
-        parent,
+        parent: rows[at + ROW_PARENT],
         resistance: Ohm(rows[at + ROW_RESISTANCE]),
         capacitance: Femtofarad(rows[at + ROW_CAPACITANCE]),
-        site,
-        kind,
+        site: rows[at + ROW_SITE] == 1,
+        kind: kinds::kind_of(rows[at], rows[at + ROW_PIN], net.due[i]),
     }
 }
 
-// A row's place in a table of links.
-fn place(i: usize) -> u16
-    requires { i ≤ rows_room }
-    ensures { result ≡ i }
-{
-    i as u16
-}
-
 // How many sites come before each row; and no row is below any row so far.
-fn count_sites(rows: &[u32], due: &[i64], n: usize, links: &mut [u16])
-    requires standing { Standing rows.now due.now n }
-    requires links_len { length links.old ≡ links_room }
-    ensures { Counted (rows_from rows.now due.now 0 n) links.new }
+fn count_sites(net: &Net<'_>, links: &mut [u16; LINKS_ROOM])
+    requires standing { Standing net.now.rows.now net.now.due.now net.now.row_count }
+    ensures { Counted (rows_from net.now.rows.now net.now.due.now 0 net.now.row_count) links.new }
 {
-    let mut i = 0;
+    let n = net.row_count;
     let mut k = 0;
-    while i < n {
-        let x = row_at(rows, due, i);
-        links[i] = place(n);
-        links[SITES_AT + i] = place(k);
-        k = kinds::next_site(x.site, k);
-        i += 1;
+    for i in 0..n {
+        links[i] = n as u16;
+        links[SITES_AT + i] = k as u16;
+        k = kinds::next_site(row_at(net, i).site, k);
     }
 }
 
 // From the last row to the first, each is put before the rows below its parent that are linked already.
-fn link_rows(rows: &[u32], due: &[i64], n: usize, links: &mut [u16])
-    requires standing { Standing rows.now due.now n }
-    requires earlier { Earlier (rows_from rows.now due.now 0 n) }
-    requires counted { Counted (rows_from rows.now due.now 0 n) links.old }
-    ensures { Links (rows_from rows.now due.now 0 n) links.new }
+fn link_rows(net: &Net<'_>, links: &mut [u16; LINKS_ROOM])
+    requires standing { Standing net.now.rows.now net.now.due.now net.now.row_count }
+    requires earlier { Earlier (rows_from net.now.rows.now net.now.due.now 0 net.now.row_count) }
+    requires counted { Counted (rows_from net.now.rows.now net.now.due.now 0 net.now.row_count) links.old }
+    ensures { Links (rows_from net.now.rows.now net.now.due.now 0 net.now.row_count) links.new }
 {
-    let mut i = n;
-    while 1 < i {
-        let m = i - 1;
-        let x = row_at(rows, due, m);
+    let n = net.row_count;
+    for m in (1..n).rev() {
+        let x = row_at(net, m);
         let p = x.parent as usize;
-        let former = links[p];
-        links[NEXT_AT + m] = former;
-        links[p] = place(m);
-        i = m;
+        links[NEXT_AT + m] = links[p];
+        links[p] = m as u16;
     }
 }
 
 // Where the rows below each row stand, for a table whose rows hang under earlier ones.
-pub fn link(rows: &[u32], due: &[i64], n: usize, links: &mut [u16])
-    requires standing { Standing rows.now due.now n }
-    requires earlier { Earlier (rows_from rows.now due.now 0 n) }
-    requires links_len { length links.old ≡ links_room }
-    ensures { Links (rows_from rows.now due.now 0 n) links.new }
+pub fn link(net: &Net<'_>, links: &mut [u16; LINKS_ROOM])
+    requires standing { Standing net.now.rows.now net.now.due.now net.now.row_count }
+    requires earlier { Earlier (rows_from net.now.rows.now net.now.due.now 0 net.now.row_count) }
+    ensures { Links (rows_from net.now.rows.now net.now.due.now 0 net.now.row_count) links.new }
 {
-    count_sites(rows, due, n, links);
-    link_rows(rows, due, n, links);
+    count_sites(net, links);
+    link_rows(net, links);
 }
 
-// The first row below a row, as the links lead, or the number past the last row.
-pub fn first_below(links: &[u16], row: usize) -> usize
-    requires { (row < rows_room) × (length links.now ≡ links_room) }
+// The first row below a row, as the links lead, or the number past the last row: no `Option`, since it promises what stands in the links,
+// and the walks count on to that number.
+pub fn first_below(links: &[u16; LINKS_ROOM], row: usize) -> usize
+    requires { row < rows_room }
     ensures { result ≡ get_or links.now row 0 }
 {
-    wide::place(links[row])
+    usize::from(links[row])
 }
 
 // The next row below the same parent, or the number past the last row.
-pub fn next_beside(links: &[u16], row: usize) -> usize
-    requires { (row < rows_room) × (length links.now ≡ links_room) }
+pub fn next_beside(links: &[u16; LINKS_ROOM], row: usize) -> usize
+    requires { row < rows_room }
     ensures { result ≡ get_or links.now (next_at + row) 0 }
 {
-    wide::place(links[NEXT_AT + row])
+    usize::from(links[NEXT_AT + row])
 }
 
 // How many sites come before a row: the number of its own, if it has one.
-pub fn sites_before(links: &[u16], row: usize) -> usize
-    requires { (row < rows_room) × (length links.now ≡ links_room) }
+pub fn sites_before(links: &[u16; LINKS_ROOM], row: usize) -> usize
+    requires { row < rows_room }
     ensures { result ≡ get_or links.now (sites_at + row) 0 }
 {
-    wide::place(links[SITES_AT + row])
+    usize::from(links[SITES_AT + row])
 }

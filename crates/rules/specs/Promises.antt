@@ -1,25 +1,23 @@
 -- The promise of each public entry: what it was handed, what the lent areas held, what it answers, and what they hold afterwards, to the
 -- last word, for every input. Assumes nothing.
-use Rattle.std.specs.Prelude.{◌≡◌, Bool, false, ◌||◌, List, map, ℕ, ◌+◌, ◌*◌, ◌≤◌, leb, ltb, ℤ, length}
+use Rattle.std.specs.Prelude.{◌≡◌, Bool, false, ◌||◌, List, map, ℕ, ◌+◌, ◌*◌, ◌≤◌, leb, ltb, ℤ, length, Result}
 use Rattle.std.proofs.Math.Option.{Option, none, some, or_else}
 use Rattle.rules.specs.declared.Refusal.{Refusal}
 use Rattle.rules.specs.declared.Refusal.TheVariants.{Room, Short, NoRow}
-use Rattle.rules.specs.declared.Reading.{Reading}
-use Rattle.rules.specs.declared.Checking.{Checking}
-use Rattle.rules.specs.declared.Slacking.{Slacking}
-use Rattle.rules.specs.declared.Planning.{Planning}
-use Rattle.rules.specs.declared.Listing.{Listing}
+use Rattle.rules.specs.declared.Net.{Net}
 use Rattle.rules.specs.Lists.{written, given_when}
 use Rattle.rules.specs.Quantities.{text_room, placement_room}
 use Rattle.rules.specs.Entries.{Entry, types_of, rows_of}
 use Rattle.rules.specs.Text.{text_entries}
-use Rattle.rules.specs.Tables.{Tables, Counts, short_tables, table_entries, counts_in, filled}
+use Rattle.rules.specs.Tables.{Tables, Counts, net_tables, net_counts, short_tables, table_entries, counts_in, filled}
 use Rattle.rules.specs.Refusals.{refusal_of}
 use Rattle.rules.specs.Placements.{marks, placement_refusal}
 use Rattle.rules.specs.Net.{Tree, at_row, driver_ohms}
 use Rattle.rules.specs.Slack.{load_of, IsSlack}
 use Rattle.rules.specs.Pairs.{Pair, Unbeaten, Reached, Planned, sites_on}
 use Rattle.rules.specs.Areas.{short_placement, Lent, lent_of, short_lent, unseen_times, Storage, PlanAreas, ListAreas, LoadsAreas, list_areas}
+use Rattle.rules.specs.declared.Counted.{Counted}
+use Rattle.rules.specs.declared.Timed.{Timed}
 use Rattle.rules.specs.Answers.{refused, done, Timing, no_counts, no_timing, read_figures, check_figures, slack_figures, plan_figures, list_figures}
 
 -- ---- a net as it is handed over, as tables or as a text
@@ -37,6 +35,10 @@ pub record Handed : Type 0 where
 abbrev pub tabled : Tables → Counts → Handed
 tabled t n = record { short = short_tables t; stopped = refusal_of (table_entries t n); entries = table_entries t n; rows = n.rows }
 
+-- as tables are lent
+abbrev pub lent_net : Net → Handed
+lent_net net = tabled (net_tables net) (net_counts net)
+
 -- the length of the text; then line by line
 abbrev pub texted : List ℕ → Handed
 texted text = record { short = false; stopped = or_else (given_when (ltb text_room (length text)) (Room 0)) (refusal_of (text_entries text)); entries = text_entries text; rows = length (rows_of (text_entries text)) }
@@ -51,17 +53,17 @@ Settled none where_refused where_not = where_not
 Settled (some r) where_refused where_not = where_refused r
 
 -- ---- read_net
-unfoldable pub ReadPromise : (text : List ℕ) (before : Tables) → Reading → (after : Tables) → Type 0
+unfoldable pub ReadPromise : (text : List ℕ) (before : Tables) → Result Counted Refusal → (after : Tables) → Type 0
 ReadPromise text before answer after =
     Settled (net_refusal (short_tables before) (texted text))
     (λ r. (read_figures answer ≡ refused no_counts r) × (after ≡ before))
     ((read_figures answer ≡ done (counts_in (text_entries text))) × (after ≡ filled (text_entries text) before))
 
 -- ---- check_net, and a text of which only the counts are asked for
-unfoldable pub CheckPromise : Handed → Checking → Type 0
+unfoldable pub CheckPromise : Handed → Result (Unit {0}) Refusal → Type 0
 CheckPromise net answer = Settled (net_refusal false net) (λ r. check_figures answer ≡ refused tt r) (check_figures answer ≡ done tt)
 
-unfoldable pub CountPromise : Handed → Reading → Type 0
+unfoldable pub CountPromise : Handed → Result Counted Refusal → Type 0
 CountPromise net answer = Settled (net_refusal false net) (λ r. read_figures answer ≡ refused no_counts r) (read_figures answer ≡ done (counts_in net.entries))
 
 -- ---- slack_of
@@ -75,7 +77,7 @@ pub record TimingOf (es : List Entry) (words : List ℕ) (v : Timing) : Type 0 w
   pub slack : IsSlack (types_of es) (marks words) (driver_ohms (rows_of es)) tree v.slack
   pub load : v.load ≡ load_of (types_of es) (marks words) tree
 
-unfoldable pub SlackPromise : Handed → (words : List ℕ) → Slacking → Type 0
+unfoldable pub SlackPromise : Handed → (words : List ℕ) → Result Timed Refusal → Type 0
 SlackPromise net words answer =
     Settled (slack_refusal net words)
     (λ r. slack_figures answer ≡ refused no_timing r)
@@ -91,7 +93,7 @@ pub record PlanOf (es : List Entry) (before after : List ℕ) (v : Timing) : Typ
   pub after_is : after ≡ written words before
   pub planned : Planned (types_of es) (driver_ohms (rows_of es)) tree (marks words) v.slack v.load
 
-unfoldable pub PlanPromise : {W : Type 0} → Storage W → Handed → (before : PlanAreas W) → Planning → (after : PlanAreas W) → Type 0
+unfoldable pub PlanPromise : {W : Type 0} → Storage W → Handed → (before : PlanAreas W) → Result Timed Refusal → (after : PlanAreas W) → Type 0
 PlanPromise s net before answer after =
     Settled (net_refusal (short_placement before.placement || s.short before.work) net)
     (λ r. (plan_figures answer ≡ refused no_timing r) × (after ≡ before))
@@ -113,7 +115,7 @@ pub record ListOf (es : List Entry) (row : ℕ) (before after : Lent) (len : ℕ
   pub loads : after.loads ≡ written (map (λ c. c.load) list) before.loads
   pub times : after.times ≡ written (map (λ c. c.time) list) before.times
 
-unfoldable pub ListPromise : {W : Type 0} → Storage W → Handed → (row : ℕ) (before : ListAreas W) → Listing → (after : ListAreas W) → Type 0
+unfoldable pub ListPromise : {W : Type 0} → Storage W → Handed → (row : ℕ) (before : ListAreas W) → Result ℕ Refusal → (after : ListAreas W) → Type 0
 ListPromise s net row before answer after =
     Settled (list_refusal (short_lent before.list || s.short before.work) net row)
     (λ r. (list_figures answer ≡ refused 0 r) × (after ≡ before))
@@ -121,6 +123,6 @@ ListPromise s net row before answer after =
 
 -- ---- loads_at
 -- what list_at promises, with the times in an area that nobody sees
-unfoldable pub LoadsPromise : {W : Type 0} → Storage W → Handed → (row : ℕ) (before : LoadsAreas W) → Listing → (after : LoadsAreas W) → Type 0
+unfoldable pub LoadsPromise : {W : Type 0} → Storage W → Handed → (row : ℕ) (before : LoadsAreas W) → Result ℕ Refusal → (after : LoadsAreas W) → Type 0
 LoadsPromise s net row before answer after =
     (times : List ℤ) × ListPromise s net row (list_areas (lent_of before.loads unseen_times) before.work) answer (list_areas (lent_of after.loads times) after.work)

@@ -1,6 +1,7 @@
 -- The net as tables: three words a type, six words and a required time a row, and how many there are of each. It has the same entries
 -- in the same order as a text. And the tables that a list of entries is written to. Assumes nothing.
 use Rattle.std.specs.Prelude.{Bool, false, cond, ◌&&◌, ◌||◌, List, [], ◌∷◌, ◌++◌, map, ℕ, zero, suc, ◌+◌, ◌*◌, min, ltb, eqb, ℤ, pos, negsuc, length, get_or}
+use Rattle.rules.specs.declared.Net.{Net}
 use Rattle.rules.specs.declared.Kind.{Kind}
 use Rattle.rules.specs.declared.Kind.TheVariants.{Driver, Point, Sink}
 use Rattle.rules.specs.declared.Row.{Row}
@@ -28,6 +29,13 @@ tables_of types rows due = record { types = types; rows = rows; due = due }
 
 abbrev pub counts_of : (types rows : ℕ) → Counts
 counts_of types rows = record { types = types; rows = rows }
+
+-- of a net as it is lent
+abbrev pub net_tables : Net → Tables
+net_tables net = tables_of net.types.now net.rows.now net.due.now
+
+abbrev pub net_counts : Net → Counts
+net_counts net = counts_of net.type_count net.row_count
 
 -- ---- what tables state
 -- how many words a type and a row have

@@ -1,16 +1,17 @@
-// The declared types of the paper: quantities that stay apart, rows, refusals, and an answer for each public entry. What they mean is in specs/.
+// The declared types of the paper: quantities that stay apart, rows, refusals, a net as it is lent, and what the entries answer. What they mean is
+// in specs/.
 #![tactic(auto)]
 
 // A resistance.
-#[derive(Clone, Copy)]
+#[derive(Clone, Copy, PartialEq, Eq)]
 pub struct Ohm(pub u32);
 
 // A load or a capacitance.
-#[derive(Clone, Copy)]
+#[derive(Clone, Copy, PartialEq, Eq)]
 pub struct Femtofarad(pub u32);
 
 // A time. It is signed: a negative slack is a result like any other.
-#[derive(Clone, Copy)]
+#[derive(Clone, Copy, PartialEq, Eq)]
 pub struct Femtosecond(pub i64);
 
 // What only a sink has.
@@ -47,7 +48,7 @@ pub struct Row {
 }
 
 // Why something is refused, with the line where there is one.
-#[derive(Clone, Copy)]
+#[derive(Clone, Copy, PartialEq, Eq)]
 pub enum Refusal {
     Form(u32),
     Range(u32),
@@ -59,43 +60,26 @@ pub enum Refusal {
     NoRow,
 }
 
-// What reading a text gives: how many types and rows, the driver included.
+// A net lent as tables: the words of its types and of its rows, the required times, and how many types and rows there are.
 #[derive(Clone, Copy)]
-pub enum Reading {
-    Read { types: u32, rows: u32 },
-    Refused(Refusal),
+pub struct Net<'a> {
+    pub types: &'a [u32],
+    pub rows: &'a [u32],
+    pub due: &'a [i64],
+    pub type_count: usize,
+    pub row_count: usize,
 }
 
-// What checking a net gives.
-#[derive(Clone, Copy)]
-pub enum Checking {
-    Accepted,
-    Refused(Refusal),
+// How many types and rows a text states, the driver included.
+#[derive(Clone, Copy, PartialEq, Eq)]
+pub struct Counted {
+    pub types: u32,
+    pub rows: u32,
 }
 
-// What evaluating a placement gives: its slack, and the load on the driver.
-#[derive(Clone, Copy)]
-pub enum Slacking {
-    Slack {
-        slack: Femtosecond,
-        load: Femtofarad,
-    },
-    Refused(Refusal),
-}
-
-// What planning gives: the slack of the placement returned, and the load on the driver.
-#[derive(Clone, Copy)]
-pub enum Planning {
-    Planned {
-        slack: Femtosecond,
-        load: Femtofarad,
-    },
-    Refused(Refusal),
-}
-
-// What listing gives: how many pairs the list has.
-#[derive(Clone, Copy)]
-pub enum Listing {
-    Listed { length: u32 },
-    Refused(Refusal),
+// What a placement gives: its slack, and the load on the driver.
+#[derive(Clone, Copy, PartialEq, Eq)]
+pub struct Timed {
+    pub slack: Femtosecond,
+    pub load: Femtofarad,
 }

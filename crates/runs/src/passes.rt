@@ -19,17 +19,12 @@ pub fn turn_at(run: &mut [Cand], p: Pass) -> Pass
     requires { Ready p run.old }
     ensures { Took p run.old result run.new }
 {
-    let i = p.from;
-    let j = p.with;
-    let o = p.to;
-    let x = run[i];
-    let y = run[j];
-    let t = turns::turn_of(p, x, y);
-    run[o] = t.put;
+    let t = turns::turn_of(p, run[p.from], run[p.with]);
+    run[p.to] = t.put;
     t.next
 }
 
-// A whole pass.
+// A whole pass. How far it goes each turn decides, so this is no `for`: a branch may end it early, and one put in past two at once.
 pub fn sweep(run: &mut [Cand], start: Pass) -> Pass
     requires { Safe start run.old }
     ensures { Swept start run.old result run.new }

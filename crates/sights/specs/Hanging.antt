@@ -12,6 +12,7 @@ use Rattle.rows.specs.Links.{Standing, Links}
 use Rattle.walks.specs.Made.{Made}
 use Rattle.walks.specs.Links.{from}
 use Rattle.rules.specs.declared.Cand.{Cand}
+use Rattle.rules.specs.declared.Net.{Net as LentNet}
 use Rattle.rooms.specs.Links.{next_at}
 use Rattle.values.specs.Records.{cands}
 
@@ -63,3 +64,25 @@ pub record Makes (rows : List ℕ) (due : List ℤ) (types : List ℕ) (count n 
   pub passed : Passed (tables_of types rows due) (counts_of count n)
   pub inside : row < n
   pub long : work_room ≤ length w
+
+-- ---- of a net that is handed as one
+abbrev pub first_in : LentNet → (links : List ℕ) (c : ℕ) → ℕ
+first_in net links c = first_at net.rows.now net.due.now links net.row_count c
+
+abbrev pub HangsIn : LentNet → (links : List ℕ) (c at : ℕ) (w : List Cand) → Type 0
+HangsIn net links c at w = Hangs net.rows.now net.due.now net.types.now links net.type_count net.row_count c at w
+
+abbrev pub HungIn : LentNet → (c at : ℕ) (w w' : List Cand) (len : ℕ) → Type 0
+HungIn net c at w w' len = Hung net.rows.now net.due.now net.types.now net.type_count net.row_count c at w w' len
+
+abbrev pub FollowsIn : LentNet → (links : List ℕ) (c at : ℕ) (w : List Cand) → Type 0
+FollowsIn net links c at w = Follows net.rows.now net.due.now net.types.now links net.type_count net.row_count c at w
+
+abbrev pub SeesIn : LentNet → (links : List ℕ) (c at : ℕ) (w : List Cand) → Type 0
+SeesIn net links c at w = Sees net.rows.now net.due.now net.types.now links net.type_count net.row_count c at w
+
+abbrev pub SeenIn : LentNet → (c at : ℕ) (w w' : List Cand) (len : ℕ) → Type 0
+SeenIn net c at w w' len = Seen net.rows.now net.due.now net.types.now net.type_count net.row_count c at w w' len
+
+abbrev pub MakesIn : LentNet → (row : ℕ) (w : List Cand) → Type 0
+MakesIn net row w = Makes net.rows.now net.due.now net.types.now net.type_count net.row_count row w

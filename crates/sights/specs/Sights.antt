@@ -1,8 +1,7 @@
 -- The list at a row of a net in its tables: from what hangs under it, by the passes of its site. Assumes nothing.
 use Rattle.std.specs.Prelude.{◌≡◌, refl, Bool, true, false, not, cond, List, ℕ, ◌+◌, ◌-◌, ◌≤◌, ◌<◌, T, ℤ, length, get_or, set}
-use Rattle.std.proofs.Common.{◌∙◌}
+use Rattle.std.proofs.Common.{◌∙◌, arith}
 use Rattle.std.proofs.Math.Option.{none}
-use native.Mathlib.Omega.{arith}
 use Rattle.std.proofs.Math.ListN.{length-set}
 use Rattle.rules.specs.declared.Kind.{Kind}
 use Rattle.rules.specs.declared.Kind.TheVariants.{Driver, Point, Sink}

@@ -1,26 +1,25 @@
 // The planner's recursion over the table, in the run: the list of what hangs from a row on, and the list at a row.
 #![tactic(auto)]
 
-ghost use Rattle.std.specs.Prelude.{◌≡◌, ◌<◌};
+ghost use Rattle.std.specs.Prelude.{◌≡◌};
 ghost use Rattle.laws.specs.Tabled.{rows_from};
 ghost use Rattle.rows.specs.Links.{Standing, Earlier, Links};
-ghost use Rattle.jobs.specs.Jobs.{RowIn};
-ghost use Rattle.sights.specs.Hanging.{first_at, next_of, Hangs, Hung, Follows, Sees, Seen, Makes};
+ghost use Rattle.jobs.specs.Jobs.{RowOf};
+ghost use Rattle.sights.specs.Hanging.{next_of, first_in, HangsIn, HungIn, FollowsIn, SeesIn, SeenIn, MakesIn};
 
 use rooms::links::LINKS_ROOM;
-use rules::Cand;
+use rules::{Cand, Net};
 
 // The first row below row c, or the number past the last row: a sink has none below it.
-pub fn first_at(rows: &[u32], due: &[i64], links: &[u16], n: usize, c: usize) -> usize
-    requires { RowIn rows.now due.now links.now c }
-    ensures { result ≡ first_at rows.now due.now links.now n c }
+pub fn first_at(net: &Net<'_>, links: &[u16; LINKS_ROOM], c: usize) -> usize
+    requires { RowOf net.now links.now c }
+    ensures { result ≡ first_in net.now links.now c }
 {
-    let x = rows::row_at(rows, due, c);
-    let kind = x.kind;
-    if kinds::is_sink(kind) {
-        return n;
+    if kinds::is_sink(rows::row_at(net, c).kind) {
+        net.row_count
+    } else {
+        rows::first_below(links, c)
     }
-    rows::first_below(links, c)
 }
 
 // The list of row c behind its wire and of the rows after it under the same parent, made at a place: the later rows first, the row's own
@@ -28,91 +27,70 @@ pub fn first_at(rows: &[u32], due: &[i64], links: &[u16], n: usize, c: usize) ->
 #[cycle(below_beside_seen)]
 pub fn below(
     run: &mut [Cand],
-    rows: &[u32],
-    due: &[i64],
-    types: &[u32],
-    links: &[u16],
-    count: usize,
-    n: usize,
+    net: &Net<'_>,
+    links: &[u16; LINKS_ROOM],
     c: usize,
     at: usize,
 ) -> usize
-    requires { Hangs rows.now due.now types.now links.now count n c at run.old }
-    ensures { Hung rows.now due.now types.now count n c at run.old run.new result }
+    requires { HangsIn net.now links.now c at run.old }
+    ensures { HungIn net.now c at run.old run.new result }
 {
-    let mut len = 0;
-    if c < n {
-        let later = beside(run, rows, due, types, links, count, n, c, at);
-        let own = seen(run, rows, due, types, links, count, n, c, at + later);
-        len = jobs::hang(run, rows, due, types, links, n, c, at, later, own);
+    if c < net.row_count {
+        let later = beside(run, net, links, c, at);
+        let own = seen(run, net, links, c, at + later);
+        jobs::hang(run, net, links, c, at, later, own)
+    } else {
+        0
     }
-    len
 }
 
 // The list of the rows after row c under the same parent.
 #[cycle(below_beside_seen)]
 pub fn beside(
     run: &mut [Cand],
-    rows: &[u32],
-    due: &[i64],
-    types: &[u32],
-    links: &[u16],
-    count: usize,
-    n: usize,
+    net: &Net<'_>,
+    links: &[u16; LINKS_ROOM],
     c: usize,
     at: usize,
 ) -> usize
-    requires { Follows rows.now due.now types.now links.now count n c at run.old }
-    ensures { Hung rows.now due.now types.now count n (next_of links.now c) at run.old run.new result }
+    requires { FollowsIn net.now links.now c at run.old }
+    ensures { HungIn net.now (next_of links.now c) at run.old run.new result }
 {
     let next = rows::next_beside(links, c);
-    below(run, rows, due, types, links, count, n, next, at)
+    below(run, net, links, next, at)
 }
 
 // The list at row c: its pin, or what hangs under it, and its site.
 #[cycle(below_beside_seen)]
 pub fn seen(
     run: &mut [Cand],
-    rows: &[u32],
-    due: &[i64],
-    types: &[u32],
-    links: &[u16],
-    count: usize,
-    n: usize,
+    net: &Net<'_>,
+    links: &[u16; LINKS_ROOM],
     c: usize,
     at: usize,
 ) -> usize
-    requires { Sees rows.now due.now types.now links.now count n c at run.old }
-    ensures { Seen rows.now due.now types.now count n c at run.old run.new result }
+    requires { SeesIn net.now links.now c at run.old }
+    ensures { SeenIn net.now c at run.old run.new result }
 {
-    let first = first_at(rows, due, links, n, c);
-    let under = below(run, rows, due, types, links, count, n, first, at);
-    jobs::site(run, rows, due, types, links, count, c, at, under)
+    let first = first_at(net, links, c);
+    let under = below(run, net, links, first, at);
+    jobs::site(run, net, links, c, at, under)
 }
 
 // Where the rows below each row stand.
-pub fn links_of(rows: &[u32], due: &[i64], n: usize) -> [u16; LINKS_ROOM]
-    requires { Standing rows.now due.now n × Earlier (rows_from rows.now due.now 0 n) }
-    ensures { Links (rows_from rows.now due.now 0 n) result }
+pub fn links_of(net: &Net<'_>) -> [u16; LINKS_ROOM]
+    requires { Standing net.now.rows.now net.now.due.now net.now.row_count × Earlier (rows_from net.now.rows.now net.now.due.now 0 net.now.row_count) }
+    ensures { Links (rows_from net.now.rows.now net.now.due.now 0 net.now.row_count) result }
 {
-    let mut links = [0u16; LINKS_ROOM];
-    rows::link(rows, due, n, &mut links);
+    let mut links = [0; LINKS_ROOM];
+    rows::link(net, &mut links);
     links
 }
 
 // The list at a row of a net that was accepted.
-pub fn make(
-    run: &mut [Cand],
-    rows: &[u32],
-    due: &[i64],
-    types: &[u32],
-    count: usize,
-    n: usize,
-    row: usize,
-) -> usize
-    requires { Makes rows.now due.now types.now count n row run.old }
-    ensures { Seen rows.now due.now types.now count n row 0 run.old run.new result }
+pub fn make(run: &mut [Cand], net: &Net<'_>, row: usize) -> usize
+    requires { MakesIn net.now row run.old }
+    ensures { SeenIn net.now row 0 run.old run.new result }
 {
-    let links = links_of(rows, due, n);
-    seen(run, rows, due, types, &links, count, n, row, 0)
+    seen(run, net, &links_of(net), row, 0)
 }

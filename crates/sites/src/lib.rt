@@ -15,6 +15,7 @@ ghost use Rattle.sites.specs.Sites.{chosen_by, Chosens};
 
 use columns::{cells, choices, moves};
 use inserts::Bounds;
+use rules::Net;
 
 // Of the n candidates at `at` the best behind type t (from 0), put at `to`.
 pub fn put_choice(
@@ -35,20 +36,14 @@ pub fn put_choice(
     ensures { run loads.new times.new words.new ≡ set (run loads.old times.old words.old) to (chosen_by (repeater_at types.now t) (with_mark k (t + 1)) (part at (at + n) (run loads.old times.old words.old))) }
 {
     let b = repeaters::type_at(types, t);
-    let input = b.input;
-    let resistance = b.resistance;
-    let own = b.own;
-    let best = choices::best_from(loads, times, at, n, own, resistance);
-    let from = best.at;
-    let time = best.value;
-    let m = t as u64;
-    cells::typed_at(loads, times, words, from, to, input, time, k, m + 1);
+    let best = choices::best_from(loads, times, at, n, b.own, b.resistance);
+    let m = t as u64 + 1;
+    cells::typed_at(loads, times, words, best.at, to, b.input, best.value, k, m);
 }
 
 // The best of each type, from `base` on.
 pub fn put_choices(
-    types: &[u32],
-    count: usize,
+    net: &Net<'_>,
     loads: &mut [u32],
     times: &mut [i64],
     words: &mut [u64],
@@ -57,23 +52,20 @@ pub fn put_choices(
     k: usize,
     base: usize,
 )
-    requires types_in { TypesIn types.now count }
+    requires types_in { TypesIn net.now.types.now net.now.type_count }
     requires room { Room loads.old times.old words.old }
     requires stand { Stand (run loads.old times.old words.old) at n }
-    requires k_lt_sites_room { (k < sites_room) × ((at + n ≤ base) × (base + count ≤ work_room)) }
-    ensures { Chosens types.now (run loads.old times.old words.old) (run loads.new times.new words.new) at n k base count }
+    requires k_lt_sites_room { (k < sites_room) × ((at + n ≤ base) × (base + net.now.type_count ≤ work_room)) }
+    ensures { Chosens net.now.types.now (run loads.old times.old words.old) (run loads.new times.new words.new) at n k base net.now.type_count }
 {
-    let mut t = 0;
-    while t < count {
-        put_choice(types, t, loads, times, words, at, n, k, base + t);
-        t += 1;
+    for t in 0..net.type_count {
+        put_choice(net.types, t, loads, times, words, at, n, k, base + t);
     }
 }
 
 // The list of n at `at`, with the best behind each type at site k put in; its length.
 pub fn put_types(
-    types: &[u32],
-    count: usize,
+    net: &Net<'_>,
     loads: &mut [u32],
     times: &mut [i64],
     words: &mut [u64],
@@ -81,28 +73,24 @@ pub fn put_types(
     n: usize,
     k: usize,
 ) -> usize
-    requires types_in { TypesIn types.now count }
+    requires types_in { TypesIn net.now.types.now net.now.type_count }
     requires room { Room loads.old times.old words.old }
     requires stand { Stand (run loads.old times.old words.old) at n }
     requires every_two { EveryTwo Below (part at (at + n) (run loads.old times.old words.old)) }
-    requires k_lt_sites_room { (k < sites_room) × (at + n + count + count ≤ work_room) }
-    ensures { Gives (run loads.old times.old words.old) (run loads.new times.new words.new) at result (site_step (repeaters_of types.now count) (with_mark k) (length (repeaters_of types.now count)) (part at (at + n) (run loads.old times.old words.old))) }
+    requires k_lt_sites_room { (k < sites_room) × (at + n + net.now.type_count + net.now.type_count ≤ work_room) }
+    ensures { Gives (run loads.old times.old words.old) (run loads.new times.new words.new) at result (site_step (repeaters_of net.now.types.now net.now.type_count) (with_mark k) (length (repeaters_of net.now.types.now net.now.type_count)) (part at (at + n) (run loads.old times.old words.old))) }
 {
+    let count = net.type_count;
     let base = at + n + count;
-    put_choices(types, count, loads, times, words, at, n, k, base);
+    put_choices(net, loads, times, words, at, n, k, base);
     let mut list = Bounds {
         start: at,
         end: at + n,
     };
-    let mut t = 0;
-    while t < count {
-        let start = list.start;
-        let end = list.end;
-        list = inserts::put_in(loads, times, words, base + t, at, start, end, count - t);
-        t += 1;
+    for t in 0..count {
+        list = inserts::put_in(loads, times, words, base + t, at, list, count - t);
     }
-    let start = list.start;
-    let r = list.end - start;
-    moves::move_list(loads, times, words, start, at, r);
-    r
+    let length = list.end - list.start;
+    moves::move_list(loads, times, words, list.start, at, length);
+    length
 }

@@ -1,14 +1,11 @@
 -- Tables that are not refused, and a placement: what the code is given, and that what it answers is what is promised. Assumes nothing.
-use Rattle.std.specs.Prelude.{◌≡◌, Bool, true, false, ◌||◌, List, ℕ, ◌*◌, ◌≤◌, ℤ}
+use Rattle.std.specs.Prelude.{◌≡◌, Bool, true, false, ◌||◌, List, ℕ, ◌*◌, ◌≤◌, ℤ, Result, Ok, Err}
 use Rattle.std.proofs.Math.Path.{refl, ap}
 use Rattle.std.proofs.Common.{sym, ◌∙◌, arith, ltb-false}
 use Rattle.std.proofs.Math.Option.{Option, none, some, some-ne-none, or_else}
-use Rattle.rules.specs.declared.Checking.TheVariants.{Accepted as Passes, Refused as Stops}
 use Rattle.rules.specs.declared.Refusal.{Refusal}
 use Rattle.rules.specs.declared.Refusal.TheVariants.{Short}
 use Rattle.rules.specs.declared.Row.{Row}
-use Rattle.rules.specs.declared.Slacking.{Slacking}
-use Rattle.rules.specs.declared.Slacking.TheVariants.{Refused}
 use Rattle.rules.specs.Lists.{given_when}
 use Rattle.rules.specs.Quantities.{◌⊖◌}
 use Rattle.rules.specs.Entries.{Entry, types_of, rows_of}
@@ -35,6 +32,7 @@ use Rattle.upward.specs.Hung.{seen_as, slack_hung}
 use Rattle.slack.specs.Hung.{hung_of}
 use Rattle.slack.specs.Ready.{Sound, hung_at}
 use Rattle.slack.specs.Sound.{hung-same, sound}
+use Rattle.rules.specs.declared.Timed.{Timed}
 use Rattle.slack.specs.Marked.{NetOf, Marking}
 
 -- no area is shorter than its room, and no entry is refused
@@ -49,11 +47,11 @@ passed true rest e = absurd (some-ne-none Short e)
 passed false rest e = (refl, e)
 
 -- what a check that was made says of what is refused
-stops-is : {r : Refusal} (o : Option Refusal) → Stops r ≡ checking o → o ≡ some r
+stops-is : {r : Refusal} (o : Option Refusal) → Err r ≡ checking o → o ≡ some r
 stops-is none e = absurd (let z : ◌≡◌ {A = ℕ} 0 1 = cc in omega arith)
 stops-is (some q) e = cc
 
-passes-is : (o : Option Refusal) → Passes ≡ checking o → o ≡ none
+passes-is : (o : Option Refusal) → Ok tt ≡ checking o → o ≡ none
 passes-is none e = refl
 passes-is (some q) e = absurd (let z : ◌≡◌ {A = ℕ} 0 1 = cc in omega arith)
 
@@ -93,12 +91,12 @@ module _ {types rows : List ℕ} {due : List ℤ} {count n : ℕ} {words : List 
   settles = rw (G.tables_long, G.words_long, G.accepted)
 
   -- refusal 6
-  pub promise-refused : {r : Refusal} → Stops r ≡ checking (placement_refusal es (marks words)) → SlackPromise (tabled (tables_of types rows due) (counts_of count n)) words (Refused r)
+  pub promise-refused : {r : Refusal} → Err r ≡ checking (placement_refusal es (marks words)) → SlackPromise (tabled (tables_of types rows due) (counts_of count n)) words (Err r)
   unfolding SlackPromise slack_figures
   promise-refused e = rw (settles, stops-is (placement_refusal es (marks words)) e) refl
 
   -- no refusal 6
-  pub passes : Passes ≡ checking (placement_refusal es (marks words)) → placement_refusal es (marks words) ≡ none
+  pub passes : Ok tt ≡ checking (placement_refusal es (marks words)) → placement_refusal es (marks words) ≡ none
   passes e = passes-is (placement_refusal es (marks words)) e
 
   module _ (h : placement_refusal es (marks words) ≡ none) where
@@ -117,18 +115,18 @@ module _ {types rows : List ℕ} {due : List ℤ} {count n : ℕ} {words : List 
     timing = record { slack = time (types_of es) (marks words) tree.0 ⊖ (driver_ohms (rows_of es) * load_of (types_of es) (marks words) tree.0); load = load_of (types_of es) (marks words) tree.0 }
 
     -- the slack, and the load on the driver
-    pub promise-timed : {answer : Slacking} → answer ≡ slack_hung (row_at rows due 0).resistance.0 (hung_at rows due types words n 0) → SlackPromise (tabled (tables_of types rows due) (counts_of count n)) words answer
+    pub promise-timed : {answer : Result Timed Refusal} → answer ≡ slack_hung (row_at rows due 0).resistance.0 (hung_at rows due types words n 0) → SlackPromise (tabled (tables_of types rows due) (counts_of count n)) words answer
     unfolding SlackPromise slack_figures slack_hung timing
     promise-timed e = rw (settles, h) (timing, rw (e, hung, ohms) refl, record { tree = tree.0; tree_is = tree.1; slack = slack_is (types_of es) (marks words) (driver_ohms (rows_of es)) tree.0; load = refl })
 
 -- ---- from the check of the tables
 -- what it refused
-pub promise-checked : (t : Tables) (n : Counts) (words : List ℕ) {r : Refusal} → Stops r ≡ checking (net_refusal (short_placement words) (tabled t n)) → SlackPromise (tabled t n) words (Refused r)
+pub promise-checked : (t : Tables) (n : Counts) (words : List ℕ) {r : Refusal} → Err r ≡ checking (net_refusal (short_placement words) (tabled t n)) → SlackPromise (tabled t n) words (Err r)
 unfolding SlackPromise slack_refusal slack_figures or_else
 promise-checked t n words e = rw (stops-is (net_refusal (short_placement words) (tabled t n)) e) refl
 
 -- what it accepted
-pub given-of : {types rows : List ℕ} {due : List ℤ} {count n : ℕ} {words : List ℕ} → Passes ≡ checking (net_refusal (short_placement words) (tabled (tables_of types rows due) (counts_of count n))) → Given types rows due count n words
+pub given-of : {types rows : List ℕ} {due : List ℤ} {count n : ℕ} {words : List ℕ} → Ok tt ≡ checking (net_refusal (short_placement words) (tabled (tables_of types rows due) (counts_of count n))) → Given types rows due count n words
 unfolding net_refusal or_else
 given-of {types} {rows} {due} {count} {n} {words} e =
     let (b, a) = passed (short_tables (tables_of types rows due) || short_placement words) (refusal_of (table_entries (tables_of types rows due) (counts_of count n))) (passes-is _ e) in

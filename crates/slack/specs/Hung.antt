@@ -1,5 +1,5 @@
 -- The step at a site, and that all steps from the sinks up give the load and the time of the tree that hangs there. Assumes nothing.
-use Rattle.std.specs.Prelude.{◌≡◌, Bool, List, length}
+use Rattle.std.specs.Prelude.{None, ◌≡◌, Bool, List, length}
 use Rattle.std.proofs.Math.Path.{refl, sym}
 use Rattle.std.proofs.Common.{ap, ◌∙◌, arith}
 use Rattle.std.proofs.Math.Bool.{true, false}
@@ -17,9 +17,7 @@ use Rattle.laws.specs.Integers.{⊖-zero}
 use Rattle.laws.specs.Trees.{time}
 use Rattle.laws.specs.Ranges.{RepeaterInRange}
 use Rattle.laws.specs.Tabled.{repeater_at, repeaters_from, repeaters-at}
-use Rattle.upward.specs.declared.Hung.{Hung}
-use Rattle.upward.specs.declared.Hung.TheVariants.{Nothing}
-use Rattle.upward.specs.Hung.{seen_as, Within, wire_hung, beside_hung, repeat_hung, start_hung}
+use Rattle.upward.specs.Hung.{Hung, seen_as, Within, wire_hung, beside_hung, repeat_hung, start_hung}
 
 -- with the repeater of a mark, 0 for none, and of a row's site, if it has one
 unfoldable pub mark_hung : List Repeater → (mark : ℕ) → Hung → Hung
@@ -34,7 +32,7 @@ site_hung types false mark h = h
 module _ (types : List Repeater) (p : Placement) where
   -- the load and the time of a tree, if there is one
   unfoldable pub hung_of : Option Tree → Hung
-  hung_of none = Nothing
+  hung_of none = None
   hung_of (some t) = seen_as (load_of types p t) (time types p t)
 
   pub hung-wired : (w : Wire) (u : Option Tree) → hung_of (wired w u) ≡ wire_hung w.resistance w.capacitance (hung_of u)
@@ -58,12 +56,12 @@ module _ (types : List Repeater) (p : Placement) where
   hung-sited true k t = hung-site k t (p k) refl
   hung-sited false k t = refl
 
-  mark-nothing : (mark : ℕ) → mark_hung types mark Nothing ≡ Nothing
+  mark-nothing : (mark : ℕ) → mark_hung types mark None ≡ None
   unfolding mark_hung repeat_hung
   mark-nothing zero = refl
   mark-nothing (suc m) = refl
 
-  site-nothing : (b : Bool) (mark : ℕ) → site_hung types b mark Nothing ≡ Nothing
+  site-nothing : (b : Bool) (mark : ℕ) → site_hung types b mark None ≡ None
   unfolding site_hung
   site-nothing true mark = mark-nothing mark
   site-nothing false mark = refl

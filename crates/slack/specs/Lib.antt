@@ -2,6 +2,7 @@
 pub mod Sites
 pub mod Hung
 pub mod Ready
+pub mod Walk
 pub mod Sound
 pub mod Marked
 pub mod Given

@@ -1,14 +1,12 @@
 -- Refusal 6 as the code finds it: the rows in their order, and so the sites in theirs, then the marks past the last site. Assumes
 -- nothing.
-use Rattle.std.specs.Prelude.{◌≡◌, Bool, true, false, List, ltb, ℤ, length, get_or}
+use Rattle.std.specs.Prelude.{◌≡◌, Bool, true, false, List, ltb, ℤ, length, get_or, Result, Ok, Err}
 use Rattle.std.proofs.Math.Path.{refl, sym}
 use Rattle.std.proofs.Common.{ap, ◌∙◌, lt-ltb, le-ltb}
 use Rattle.std.proofs.lemmas.Bool.{false≢true}
 use Rattle.std.proofs.Math.Option.{none, some, or_else}
 use Prim.Native.Nat.{ℕ, suc, ◌+◌, ◌-◌, ◌≤◌, ◌<◌}
 use native.Mathlib.Omega.{arith}
-use Rattle.rules.specs.declared.Checking.{Checking}
-use Rattle.rules.specs.declared.Checking.TheVariants.{Accepted, Refused}
 use Rattle.rules.specs.declared.Refusal.{Refusal}
 use Rattle.rules.specs.declared.Refusal.TheVariants.{Mark}
 use Rattle.rules.specs.declared.Row.{Row}
@@ -69,7 +67,7 @@ pub past-start : {words : List ℕ} {from : ℕ} → from ≤ sites_room → Pas
 past-start h = record { on = omega arith; inside = h; left = λ es n. refl }
 
 module _ {words : List ℕ} {from j mark : ℕ} (P : PastFrom words from j) (mark-is : mark ≡ marks words j) where
-  pub past_stop : j < sites_room → 0 < mark → (es : List Entry) → sites_of (rows_of es) ≤ from → Refused (Mark 0) ≡ checking (marks_from es (marks words) from (sites_room - from))
+  pub past_stop : j < sites_room → 0 < mark → (es : List Entry) → sites_of (rows_of es) ≤ from → Err (Mark 0) ≡ checking (marks_from es (marks words) from (sites_room - from))
   past_stop h g es n = ap checking (sym (P.left es n ∙ marks-stop es (marks words) j h (mark-past es (marks words) j (omega (arith, P.on)) ∙ rw (lt-ltb 0 (marks words j) (rw mark-is at g)))))
 
   pub past-pass : j < sites_room → mark ≤ 0 → PastFrom words from (j + 1)
@@ -79,7 +77,7 @@ module _ {words : List ℕ} {from j mark : ℕ} (P : PastFrom words from j) (mar
     left = λ es n. P.left es n ∙ marks-pass es (marks words) j h (mark-past es (marks words) j (omega (arith, P.on)) ∙ rw (le-ltb 0 (marks words j) (rw mark-is at g)));
   }
 
-pub past_end : {words : List ℕ} {from j : ℕ} → PastFrom words from j → sites_room ≤ j → (es : List Entry) → sites_of (rows_of es) ≤ from → Accepted ≡ checking (marks_from es (marks words) from (sites_room - from))
+pub past_end : {words : List ℕ} {from j : ℕ} → PastFrom words from j → sites_room ≤ j → (es : List Entry) → sites_of (rows_of es) ≤ from → Ok tt ≡ checking (marks_from es (marks words) from (sites_room - from))
 past_end {words} {from} {j} P h es n = ap checking (sym (P.left es n ∙ marks-end es (marks words) j h))
 
 -- ---- the rows in their order
@@ -115,7 +113,7 @@ module _ {rows : List ℕ} {due : List ℤ} {types n : ℕ} {words : List ℕ} (
   sites-room {i} P = omega (arith, P.sites, M.sites_few, before-few net i)
 
   -- all rows have passed: the marks that are left are past the last site
-  pub passed-all : {i k : ℕ} {r : Checking} → Passed rows due types n words i k → n ≤ i
+  pub passed-all : {i k : ℕ} {r : Result (Unit {0}) Refusal} → Passed rows due types n words i k → n ≤ i
       → ((es : List Entry) → sites_of (rows_of es) ≤ k → r ≡ checking (marks_from es (marks words) k (sites_room - k)))
       → (es : List Entry) → NetOf rows due types n es → r ≡ checking (placement_refusal es (marks words))
   passed-all {i} {k} P h past es N = rw (P.left es N) (past es (rw N.rows_are (omega (arith, P.sites, before-all net i (rw rows-length h)))))
@@ -132,7 +130,7 @@ module _ {rows : List ℕ} {due : List ℤ} {types n : ℕ} {words : List ℕ} (
     at_row es N s = rw N.types_are at (mark-at es (marks words) i k (rw (N.rows_are, rows-length) h) (rw (N.rows_are, here) s) (P.sites ∙ rw N.rows_are))
 
     -- a mark above the net's types stops it, with the row's line
-    pub row-stop : over_mark x.site types (marks words k) ≡ true → {line : ℕ} → line ≡ types + i + 1 → (es : List Entry) → NetOf rows due types n es → Refused (Mark line) ≡ checking (placement_refusal es (marks words))
+    pub row-stop : over_mark x.site types (marks words k) ≡ true → {line : ℕ} → line ≡ types + i + 1 → (es : List Entry) → NetOf rows due types n es → Err (Mark line) ≡ checking (placement_refusal es (marks words))
     row-stop o e es N = rw e (ap checking (sym (go x.site refl o)))
       where
         go : (b : Bool) → x.site ≡ b → over_mark b types (marks words k) ≡ true → placement_refusal es (marks words) ≡ some (Mark (types + i + 1))

@@ -1,6 +1,6 @@
 -- What the walk over a table's tree stands on, and what each of its calls needs and gives: the load and the time of the tree that hangs
 -- there. Assumes nothing.
-use Rattle.std.specs.Prelude.{◌≡◌, true, List, ℕ, ◌+◌, ◌*◌, ◌≤◌, ◌<◌, ℤ, length, get_or}
+use Rattle.std.specs.Prelude.{None, ◌≡◌, true, List, ℕ, ◌+◌, ◌*◌, ◌≤◌, ◌<◌, ℤ, length, get_or}
 use Rattle.std.proofs.Math.Path.{refl, sym, ap, ap₂}
 use Rattle.std.proofs.Common.{◌∙◌, arith}
 use Rattle.std.proofs.Math.Decide.{dec_lt}
@@ -19,10 +19,8 @@ use Rattle.laws.specs.Taken.{RowIn, KindIn}
 use Rattle.laws.specs.Tabled.{row_at, rows_from, rows-length, repeater_at}
 use Rattle.laws.specs.Walk.{no_row, sites_before, under, under-end, under-taken, seen_at, Child, child-is}
 use Rattle.rows.specs.Links.{Links, Earlier, Standing, row_is}
-use Rattle.upward.specs.declared.Hung.{Hung}
-use Rattle.upward.specs.declared.Hung.TheVariants.{Nothing}
 use Rattle.slack.specs.Sites.{site-number}
-use Rattle.upward.specs.Hung.{Within, wire_hung, beside_hung, start_hung}
+use Rattle.upward.specs.Hung.{Hung, Within, wire_hung, beside_hung, start_hung}
 use Rattle.slack.specs.Hung.{site_hung, hung_of, hung-wired, hung-beside, hung-seen, table_types, Siting}
 
 -- what hangs under the parent of row c among the rows from c on, what is at row i, and row i behind its wire
@@ -86,7 +84,7 @@ module _ {rows : List ℕ} {due : List ℤ} {types words links : List ℕ} {n : 
   long = rows-length rows due 0 n
 
   -- past the last row nothing hangs
-  pub below_end : (c : ℕ) → n ≡ c → Nothing ≡ hung_below rows due types words n c
+  pub below_end : (c : ℕ) → n ≡ c → None ≡ hung_below rows due types words n c
   unfolding hung_below hung_of
   below_end c e = rw (under-end net (get_or net c no_row).parent c (rw long (omega arith)))
 

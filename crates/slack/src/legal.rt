@@ -7,7 +7,7 @@ ghost use Rattle.net.specs.TableSteps.{checking};
 ghost use Rattle.slack.specs.Marked.{over_mark, NetOf, Marking};
 
 use rooms::SITES_ROOM;
-use rules::{Checking, Refusal};
+use rules::{Net, Refusal};
 
 // Whether a row's site, site k, is marked with a type the net hasn't.
 fn is_over(words: &[u64], site: bool, k: usize, count: usize) -> bool
@@ -15,26 +15,20 @@ fn is_over(words: &[u64], site: bool, k: usize, count: usize) -> bool
     requires placement_room_in_bounds { placement_room ≤ length words.now }
     ensures { result ≡ over_mark site count (marks words.now k) }
 {
-    if site {
-        let mark = marks::mark_of(words, k) as usize;
-        return count < mark;
-    }
-    false
+    site && count < marks::mark_of(words, k) as usize
 }
 
 // The marks past the last site: any is refused, and there is no line for it.
-fn check_past(words: &[u64], from: usize) -> Checking
+fn check_past(words: &[u64], from: usize) -> Result<(), Refusal>
     requires { (from ≤ sites_room) × (placement_room ≤ length words.now) }
     ensures { (es : List Entry) → sites_of (rows_of es) ≤ from → result ≡ checking (marks_from es (marks words.now) from (sites_room - from)) }
 {
-    let mut j = from;
-    while j < SITES_ROOM {
+    for j in from..SITES_ROOM {
         if 0 < marks::mark_of(words, j) {
-            return Checking::Refused(Refusal::Mark(0));
+            return Err(Refusal::Mark(0));
         }
-        j += 1;
     }
-    Checking::Accepted
+    Ok(())
 }
 
 // The line of a row is after those of the types and of the rows before it.
@@ -46,19 +40,18 @@ fn line_of(count: usize, row: usize) -> u32
 }
 
 // The rows in their order, and so the sites in theirs, each with its mark; then the marks past the last site.
-pub fn check_marks(rows: &[u32], due: &[i64], count: usize, n: usize, words: &[u64]) -> Checking
-    requires { Marking rows.now due.now count n words.now }
-    ensures { (es : List Entry) → NetOf rows.now due.now count n es → result ≡ checking (placement_refusal es (marks words.now)) }
+pub fn check_marks(net: &Net<'_>, words: &[u64]) -> Result<(), Refusal>
+    requires { Marking net.now.rows.now net.now.due.now net.now.type_count net.now.row_count words.now }
+    ensures { (es : List Entry) → NetOf net.now.rows.now net.now.due.now net.now.type_count net.now.row_count es → result ≡ checking (placement_refusal es (marks words.now)) }
 {
-    let mut i = 0;
+    let count = net.type_count;
     let mut k = 0;
-    while i < n {
-        let x = rows::row_at(rows, due, i);
+    for i in 0..net.row_count {
+        let x = rows::row_at(net, i);
         if is_over(words, x.site, k, count) {
-            return Checking::Refused(Refusal::Mark(line_of(count, i)));
+            return Err(Refusal::Mark(line_of(count, i)));
         }
         k = kinds::next_site(x.site, k);
-        i += 1;
     }
     check_past(words, k)
 }

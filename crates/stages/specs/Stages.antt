@@ -14,6 +14,8 @@ use Rattle.turns.specs.declared.Pass.{Pass}
 use Rattle.values.specs.Records.{cand_of}
 use Rattle.turns.specs.Turns.{pass_of}
 use Rattle.stages.specs.declared.Job.{Job}
+use Rattle.stages.specs.declared.Stage.{Stage}
+use Rattle.stages.specs.declared.Stage.TheVariants.{Pin, Choice, Insert as PutIn, Wire, Branch as Join, Move as Lower}
 
 -- where the row's own list stands
 abbrev pub own_at : Job → ℕ
@@ -53,6 +55,15 @@ begin_of types j =
     (cond (ltb j.step (j.count + j.count + 2)) (wire_pass j)
     (cond (ltb j.step (j.count + j.count + 3)) (branch_pass j)
     (move_pass j)))))
+
+-- what the number of a pass means, with so many types at the site
+abbrev pub StageOf : (step types : ℕ) → Stage → Type 0
+StageOf step types Pin = step < 1
+StageOf step types (Choice t) = (step ≡ t + 1) × (t < types)
+StageOf step types (PutIn t) = (step ≡ types + t + 1) × (t < types)
+StageOf step types Wire = step ≡ types + types + 1
+StageOf step types Join = step ≡ types + types + 2
+StageOf step types Lower = types + types + 3 ≤ step
 
 -- ---- what a pass makes of the job
 abbrev pub on_to : Job → (own made : ℕ) → List Cand → Job

@@ -1,28 +1,20 @@
 -- The entries of both storages give the same: one answer, the same words in the lent areas, and work areas that stand alike after. From the
 -- contracts, on the same tables, counts and areas, where both work areas are short or both are long enough; of a placement, also from that an
 -- area of 64-bit words holds such words. Assumes nothing.
-use Rattle.std.specs.Prelude.{◌≡◌, refl, Bool, ◌||◌, List, ℕ, ℤ, length}
-use Rattle.std.proofs.Common.{ap, arith}
+use Rattle.std.specs.Prelude.{◌≡◌, refl, Bool, ◌||◌, List, ℕ, ℤ, Result}
+use Rattle.std.proofs.Common.{ap}
 use Rattle.rules.specs.declared.Cand.{Cand}
-use Rattle.rules.specs.declared.Checking.{Checking}
-use Rattle.rules.specs.declared.Checking.TheVariants.{Accepted, Refused}
-use Rattle.rules.specs.declared.Planning.{Planning}
-use Rattle.rules.specs.declared.Listing.{Listing}
 use Rattle.rules.specs.Answers.{plan_figures, list_figures, no_timing}
 use Rattle.rules.specs.Areas.{short_placement, Lent, short_lent, Storage, Columns, columns, records, PlanAreas, ListAreas, plan_areas, list_areas}
 use Rattle.rules.specs.Promises.{Handed, net_refusal, list_refusal, PlanOf, ListOf, PlanPromise, ListPromise, tabled}
 use Rattle.rules.specs.Tables.{tables_of, counts_of}
 use Rattle.laws.specs.Picked.{Picks, Words64}
-use Rattle.laws.proofs.Picked.{refused-picks, plan-settled}
+use Rattle.laws.proofs.Picked.{plan-settled}
 use Rattle.laws.specs.Settled.{list-settled}
-use Rattle.rows.specs.Given.{standing}
-use Rattle.chosen.specs.Promised.{entries_of, pick-of}
-use Rattle.turns.specs.declared.Pass.{Pass}
-use Rattle.values.specs.Records.{cands}
-use Rattle.runs.specs.Cands.{cands-length}
-use Rattle.records.specs.Entries.{Plans, ChoseIf, ToldIf, Verdict, is_accepted}
-use Rattle.records.specs.Planning.{verdict-plans, choice}
+use Rattle.chosen.specs.Promised.{entries_of}
 use Rattle.stands.specs.Work.{WorkAlike, Left, untold}
+use Rattle.rules.specs.declared.Timed.{Timed}
+use Rattle.rules.specs.declared.Refusal.{Refusal}
 use Rattle.stands.proofs.Work.{work-alike, left_by, told-by}
 
 -- a net in its tables
@@ -30,7 +22,7 @@ abbrev net_of : (types rows : List ℕ) (due : List ℤ) (count n : ℕ) → Han
 net_of types rows due count n = tabled (tables_of types rows due) (counts_of count n)
 
 -- ---- list_at and list_records
-module _ {W : Type 0} (s : Storage W) (net : Handed) (row : ℕ) (before after : ListAreas W) (a : Listing) (p : ListPromise s net row before a after) where
+module _ {W : Type 0} (s : Storage W) (net : Handed) (row : ℕ) (before after : ListAreas W) (a : Result ℕ Refusal) (p : ListPromise s net row before a after) where
   list-untold : (b : Bool) → s.short before.work ≡ b → ListPromise (untold b) net row (list_areas before.list tt) a (list_areas after.list tt)
   unfolding ListPromise
   list-untold b e = rw (← e) (told-by s (λ (m : ListAreas W). m.work) 0 (list_figures a) (λ len. ListOf net.entries row before.list after.list len) before after (λ (m : ListAreas W). list_areas m.list tt) (list_refusal (short_lent before.list || s.short before.work) net row) p)
@@ -40,7 +32,7 @@ module _ {W : Type 0} (s : Storage W) (net : Handed) (row : ℕ) (before after :
   list_left = left_by s (λ (m : ListAreas W). m.work) 0 (list_figures a) (λ len. ListOf net.entries row before.list after.list len) before after (list_refusal (short_lent before.list || s.short before.work) net row) p
 
 -- one answer, the same words in the areas of the list, and the work areas alike: from the contracts of `list_at` and `list_records`
-pub list_same : (types rows : List ℕ) (due : List ℤ) (count n row : ℕ) (before x y : Lent) (c c' : Columns) (r r' : List Cand) (a b : Listing) → columns.short c ≡ records.short r
+pub list_same : (types rows : List ℕ) (due : List ℤ) (count n row : ℕ) (before x y : Lent) (c c' : Columns) (r r' : List Cand) (a b : Result ℕ Refusal) → columns.short c ≡ records.short r
     → ListPromise columns (tabled (tables_of types rows due) (counts_of count n)) row (list_areas before c) a (list_areas x c')
     → ListPromise records (tabled (tables_of types rows due) (counts_of count n)) row (list_areas before r) b (list_areas y r')
     → (a ≡ b) × (x ≡ y) × WorkAlike (list_figures a).number c c' r r'
@@ -53,7 +45,7 @@ list_same types rows due count n row before x y c c' r r' a b short p q =
     (e, ap (λ (m : ListAreas (Unit {0})). m.list) s.1, work-alike (list_figures a).number c c' r r' (list_left columns net row (list_areas before c) (list_areas x c') a p) (rw (← e) at (list_left records net row (list_areas before r) (list_areas y r') b q)))
 
 -- ---- plan_net and plan_records
-module _ {W : Type 0} (s : Storage W) (net : Handed) (before after : PlanAreas W) (a : Planning) (p : PlanPromise s net before a after) where
+module _ {W : Type 0} (s : Storage W) (net : Handed) (before after : PlanAreas W) (a : Result Timed Refusal) (p : PlanPromise s net before a after) where
   plan-untold : (b : Bool) → s.short before.work ≡ b → PlanPromise (untold b) net (plan_areas before.placement tt) a (plan_areas after.placement tt)
   unfolding PlanPromise
   plan-untold b e = rw (← e) (told-by s (λ (m : PlanAreas W). m.work) no_timing (plan_figures a) (λ v. PlanOf net.entries before.placement after.placement v) before after (λ (m : PlanAreas W). plan_areas m.placement tt) (net_refusal (short_placement before.placement || s.short before.work) net) p)
@@ -62,32 +54,16 @@ module _ {W : Type 0} (s : Storage W) (net : Handed) (before after : PlanAreas W
   unfolding PlanPromise
   plan-left = left_by s (λ (m : PlanAreas W). m.work) no_timing (plan_figures a) (λ v. PlanOf net.entries before.placement after.placement v) before after (net_refusal (short_placement before.placement || s.short before.work) net) p
 
--- the placement of `plan_records` is the one that the method carries: from the contracts of the functions that it calls, `records::judge`,
--- `records::plan_if` and `records::tell_if`
-pub records-picks : (types rows : List ℕ) (due : List ℤ) (count n : ℕ) (before after : List ℕ) (r r' : List Cand) (verdict : Checking) (e : Pass) (b : Planning)
-    → Verdict types rows due count n (length before) (length r) verdict → ChoseIf rows due types count n r r' verdict e → ToldIf verdict e before after b
-    → Picks (entries_of types rows due count n) before after (plan_figures b).number
-records-picks types rows due count n before after r r' verdict e b judged C D = by verdict refl C D
-  where
-    by : (d : Checking) → verdict ≡ d → ChoseIf rows due types count n r r' d e → ToldIf d e before after b → Picks (entries_of types rows due count n) before after (plan_figures b).number
-    by Accepted f chosen told =
-        let P : Plans rows due types count n r = rw f at (verdict-plans types rows due count n before r verdict judged) in
-        let k = choice types rows due count n before r verdict judged (ap is_accepted f) r' e chosen after b told in
-        λ z. pick-of P.passed 0 (omega (arith, standing P.passed)) (cands r) (cands chosen.run) (rw (cands-length chosen.run) chosen.long) chosen.len chosen.seen.made refl before after e.worth.0 e.held.load.0 k
-    by (Refused d) f same told = rw told.1 (refused-picks (entries_of types rows due count n) before after d)
-
--- one answer, the same placement area to the last word, and the work areas alike: from the contracts of `plan_net`, of `plan_records`, and of
--- the functions that the latter calls
-pub plan-same : (types rows : List ℕ) (due : List ℤ) (count n : ℕ) (before x y : List ℕ) (c c' : Columns) (r r' : List Cand) (a b : Planning) (verdict : Checking) (e : Pass) → columns.short c ≡ records.short r
+-- one answer, the same placement area to the last word, and the work areas alike: from the contracts of `plan_net` and `plan_records`
+pub plan-same : (types rows : List ℕ) (due : List ℤ) (count n : ℕ) (before x y : List ℕ) (c c' : Columns) (r r' : List Cand) (a b : Result Timed Refusal) → columns.short c ≡ records.short r
     → PlanPromise columns (tabled (tables_of types rows due) (counts_of count n)) (plan_areas before c) a (plan_areas x c') → Picks (entries_of types rows due count n) before x (plan_figures a).number
-    → PlanPromise records (tabled (tables_of types rows due) (counts_of count n)) (plan_areas before r) b (plan_areas y r')
-    → Verdict types rows due count n (length before) (length r) verdict → ChoseIf rows due types count n r r' verdict e → ToldIf verdict e before y b
+    → PlanPromise records (tabled (tables_of types rows due) (counts_of count n)) (plan_areas before r) b (plan_areas y r') → Picks (entries_of types rows due count n) before y (plan_figures b).number
     → Words64 x → Words64 y
     → (a ≡ b) × (x ≡ y) × WorkAlike (plan_figures a).number c c' r r'
-plan-same types rows due count n before x y c c' r r' a b verdict e short p f q judged C D h k =
+plan-same types rows due count n before x y c c' r r' a b short p f q f' h k =
     let net = net_of types rows due count n in
     let g = plan-untold columns net (plan_areas before c) (plan_areas x c') a p (records.short r) short in
     let i = plan-untold records net (plan_areas before r) (plan_areas y r') b q (records.short r) refl in
-    let s = plan-settled (untold (records.short r)) net (plan_areas before tt) a b (plan_areas x tt) (plan_areas y tt) g i f (records-picks types rows due count n before y r r' verdict e b judged C D) h k in
+    let s = plan-settled (untold (records.short r)) net (plan_areas before tt) a b (plan_areas x tt) (plan_areas y tt) g i f f' h k in
     let m : a ≡ b = s.0 in
     (m, ap (λ (z : PlanAreas (Unit {0})). z.placement) s.1, work-alike (plan_figures a).number c c' r r' (plan-left columns net (plan_areas before c) (plan_areas x c') a p) (rw (← m) at (plan-left records net (plan_areas before r) (plan_areas y r') b q)))

@@ -15,25 +15,21 @@
 
 mod listing;
 mod planning;
-mod saying;
 
+use compared::parting::Texts;
 use rooms::{ROWS_AREA, ROWS_ROOM, TYPES_AREA};
-use rules::Reading;
+use rules::{Counted, Net};
+use writing::{Refused, say};
 
 const INPUT_ROOM: usize = 131_072;
 
 // Both storages asked for a net.
-fn compare(
-    types: &[u32; TYPES_AREA],
-    rows: &[u32; ROWS_AREA],
-    due: &[i64; ROWS_ROOM],
-    t: usize,
-    n: usize,
-) {
-    let planned = planning::alike(types, rows, due, t, n);
-    let driver = listing::alike_at(types, rows, due, t, n, 0, true);
-    let listed = listing::rows_alike(types, rows, due, t, n);
-    saying::verdict(planned, driver, listed);
+fn compare(net: &Net<'_>) {
+    let planned = planning::alike(net);
+    let driver = listing::alike_at(net, 0, true);
+    let listed = listing::rows_alike(net);
+    let same = planned && driver && listed;
+    say!("{}\n", if same { "same" } else { "differ" });
 }
 
 fn report(text: &[u8]) {
@@ -41,35 +37,28 @@ fn report(text: &[u8]) {
     let mut rows = [0u32; ROWS_AREA];
     let mut due = [0i64; ROWS_ROOM];
     let read = net::read_net(text, &mut types, &mut rows, &mut due);
-    match read {
-        Reading::Refused(r) => {
-            saying::refused_text(r);
-            compare(&types, &rows, &due, 0, 0);
-        }
-        Reading::Read { types: t, rows: n } => compare(&types, &rows, &due, t as usize, n as usize),
+    if let Err(r) = read {
+        say!("text {}\n", Refused(r));
     }
-}
-
-fn run(input: &[u8]) {
-    let mut from = 0;
-    while from < input.len() {
-        let end = compared::parting::text_end(input, from);
-        report(&input[from..end]);
-        from = end + 1;
-    }
-}
-
-// The first n bytes are what was read. A full buffer may hold a part of the nets only.
-fn told(input: &[u8], n: usize) {
-    if n < input.len() {
-        run(&input[..n]);
-        return;
-    }
-    saying::say(b"bad input\n");
+    let counted = read.unwrap_or(Counted { types: 0, rows: 0 });
+    compare(&Net {
+        types: &types,
+        rows: &rows,
+        due: &due,
+        type_count: counted.types as usize,
+        row_count: counted.rows as usize,
+    });
 }
 
 fn main() {
     let mut input = [0u8; INPUT_ROOM];
     let n = io::read_full(0, &mut input);
-    told(&input, n);
+    // A full buffer may hold a part of the nets only.
+    if n == INPUT_ROOM {
+        say!("bad input\n");
+        return;
+    }
+    for text in Texts(&input[..n]) {
+        report(text);
+    }
 }

@@ -1,6 +1,6 @@
 -- The fields of a line by place: those from a place on, the first of them, and what a reader of a line learns from it. After the
 -- line there is no field, which reads as malformed, as an empty one does. Assumes nothing.
-use Rattle.std.specs.Prelude.{◌≡◌, cond, List, [], ◌∷◌, ℕ, suc, ◌+◌, ◌-◌, ◌≤◌, ◌<◌, leb, length, take, drop}
+use Rattle.std.specs.Prelude.{◌≡◌, cond, List, [], ◌∷◌, ℕ, ℤ, suc, ◌+◌, ◌-◌, ◌≤◌, ◌<◌, leb, length, take, drop}
 use Rattle.std.proofs.Common.{sym, ap, ◌∙◌, arith, length-drop, drop-drop, le-leb, leb-true, leb-false}
 use Rattle.std.proofs.Math.Option.{Option, none}
 use Rattle.std.proofs.Math.Seq.{take-length}
@@ -8,9 +8,8 @@ use Rattle.std.proofs.lemmas.Bool.{lt-leb}
 use Rattle.rules.specs.Entries.{Entry, malformed}
 use Rattle.rules.specs.Text.{parted, number, signed, after, end, next_field}
 use Rattle.text.specs.declared.Field.{Field}
-use Rattle.text.specs.declared.SignedField.{SignedField}
 use Rattle.text.specs.Stretches.{tab, lead, stretch, lead-le, either, parted-last, parted-more, length-stretch, stretch-past}
-use Rattle.text.specs.Numbers.{field_of, time_of, Within, WithinTime, within-number, within-time}
+use Rattle.text.specs.Numbers.{field_of, time_of, Within, within-number, within-time}
 
 -- the field that starts at a place, and where the next one would
 abbrev pub field_at : List ℕ → ℕ → List ℕ
@@ -23,13 +22,13 @@ next_at line at = at + length (field_at line at) + 1
 unfoldable pub fields_from : List ℕ → ℕ → List (List ℕ)
 fields_from line at = cond (leb at (length line)) (parted tab (drop at line)) []
 
-pub record NumberAt (line : List ℕ) (at : ℕ) (r : Field) : Type 0 where
+pub record NumberAt (line : List ℕ) (at : ℕ) (r : Field ℕ) : Type 0 where
   pub value : r ≡ field_of (number (field_at line at)) (next_at line at)
   pub within : Within (length line) r
 
-pub record TimeAt (line : List ℕ) (at : ℕ) (r : SignedField) : Type 0 where
+pub record TimeAt (line : List ℕ) (at : ℕ) (r : Field ℤ) : Type 0 where
   pub value : r ≡ time_of (signed (field_at line at)) (next_at line at)
-  pub within : WithinTime (length line) r
+  pub within : Within (length line) r
 
 -- ---- laws
 pub fields-none : (line : List ℕ) (at : ℕ) → length line < at → fields_from line at ≡ []
@@ -86,14 +85,14 @@ pub fields-over : (e : Entry) (line : List ℕ) (at : ℕ) → at ≤ length lin
 fields-over e line at h = rw (fields-some line at h)
 
 -- what the readers at a place answer
-pub number_is : (line part : List ℕ) (at : ℕ) (r : Field) → part ≡ field_at line at → r ≡ field_of (number part) (at + length part + 1) → NumberAt line at r
+pub number_is : (line part : List ℕ) (at : ℕ) (r : Field ℕ) → part ≡ field_at line at → r ≡ field_of (number part) (at + length part + 1) → NumberAt line at r
 number_is line part at r e g =
     record {
       value = rw e at g;
       within = rw g (within-number part at (length line) (rw e (length-field_at line at)));
     }
 
-pub time-is : (line part : List ℕ) (at : ℕ) (r : SignedField) → part ≡ field_at line at → r ≡ time_of (signed part) (at + length part + 1) → TimeAt line at r
+pub time-is : (line part : List ℕ) (at : ℕ) (r : Field ℤ) → part ≡ field_at line at → r ≡ time_of (signed part) (at + length part + 1) → TimeAt line at r
 time-is line part at r e g =
     record {
       value = rw e at g;

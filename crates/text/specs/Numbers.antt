@@ -10,8 +10,6 @@ use Rattle.std.proofs.Math.Facts.{to_z_pos}
 use Rattle.rules.specs.Text.{is_digit, digit, more_digits, number, positive, negative, signed}
 use Rattle.text.specs.declared.Field.{Field}
 use Rattle.text.specs.declared.Field.TheVariants.{Number, Bad}
-use Rattle.text.specs.declared.SignedField.{SignedField}
-use Rattle.text.specs.declared.SignedField.TheVariants.{Number as Time, Bad as BadTime}
 use Rattle.text.specs.Stretches.{either, absurd}
 
 -- above every range
@@ -22,7 +20,7 @@ cap = 10_000_000_000_000
 abbrev pub grown : (n b : ℕ) → ℕ
 grown n b = min (10 * n + digit b) cap
 
-abbrev pub field_of : Option ℕ → (next : ℕ) → Field
+abbrev pub field_of : Option ℕ → (next : ℕ) → Field ℕ
 field_of none next = Bad
 field_of (some n) next = Number (min n cap) next
 
@@ -31,32 +29,28 @@ abbrev pub capped_time : ℤ → ℤ
 capped_time (pos n) = pos (min n cap)
 capped_time (negsuc n) = neg_ℤ (pos (min (suc n) cap))
 
-abbrev pub time_of : Option ℤ → (next : ℕ) → SignedField
-time_of none next = BadTime
-time_of (some z) next = Time (capped_time z) next
+abbrev pub time_of : Option ℤ → (next : ℕ) → Field ℤ
+time_of none next = Bad
+time_of (some z) next = Number (capped_time z) next
 
 -- a field that was read is at most the cap
-abbrev pub Small : Field → Type 0
+abbrev pub Small : Field ℕ → Type 0
 Small (Number n next) = n ≤ cap
 Small Bad = Unit {0}
 
-abbrev pub kept : Field → SignedField
-kept (Number n next) = Time (pos n) next
-kept Bad = BadTime
+abbrev pub kept : Field ℕ → Field ℤ
+kept (Number n next) = Number (pos n) next
+kept Bad = Bad
 
 -- `-0` is malformed
-abbrev pub negated : Field → SignedField
-negated (Number n next) = cond (eqb n 0) BadTime (Time (neg_ℤ (pos n)) next)
-negated Bad = BadTime
+abbrev pub negated : Field ℕ → Field ℤ
+negated (Number n next) = cond (eqb n 0) Bad (Number (neg_ℤ (pos n)) next)
+negated Bad = Bad
 
 -- where the next field starts is at most one past the line
-abbrev pub Within : (long : ℕ) → Field → Type 0
+abbrev pub Within : {N : Type 0} → (long : ℕ) → Field N → Type 0
 Within long (Number n next) = next ≤ long + 1
 Within long Bad = Unit {0}
-
-abbrev pub WithinTime : (long : ℕ) → SignedField → Type 0
-WithinTime long (Time z next) = next ≤ long + 1
-WithinTime long BadTime = Unit {0}
 
 -- ---- laws
 pub small-field : (o : Option ℕ) (next : ℕ) → Small (field_of o next)
@@ -166,14 +160,14 @@ pub digits-done : (n next : ℕ) (s : List ℕ) (i : ℕ) → n ≤ cap → leng
 digits-done n next s i h g = rw (drop_of_length-le s g) (digits-end n next h)
 
 -- ---- what was read, as a time
-pub small_is : (f : Field) (n next : ℕ) → f ≡ Number n next → Small f → n ≤ cap
+pub small_is : (f : Field ℕ) (n next : ℕ) → f ≡ Number n next → Small f → n ≤ cap
 small_is f n next e h = rw e at h
 
 -- a signed local holds bits: what is read back from them is the number, since it fits
 pub bits_back : (z : ℤ) → mag z < 2 ^ 63 → to_z w64 (of_z w64 z) ≡ z
 bits_back z h = to_z-of_z {w = w64} (record { sfits = h })
 
-pub kept-is : (f : Field) (n next : ℕ) → f ≡ Number n next → n ≤ cap → Time (to_z w64 n) next ≡ kept f
+pub kept-is : (f : Field ℕ) (n next : ℕ) → f ≡ Number n next → n ≤ cap → Number (to_z w64 n) next ≡ kept f
 kept-is f n next e h = rw (e, to_z_pos w64 {n = n} (omega arith))
 
 minus : (n : ℕ) → pos 0 -ℤ pos n ≡ neg_ℤ (pos n)
@@ -186,7 +180,7 @@ mag-minus (suc n) = omega arith
 pub minus-fits : (n : ℕ) → n ≤ cap → SFits w64 (pos 0 -ℤ to_z w64 n)
 minus-fits n h = rw (to_z_pos w64 {n = n} (omega arith), minus n) (record { sfits = omega (arith, mag-minus n) })
 
-pub negated-is : (f : Field) (n next : ℕ) → f ≡ Number n next → n ≤ cap → (n ≡ 0 → ⊥) → Time (to_z w64 (of_z w64 (pos 0 -ℤ to_z w64 n))) next ≡ negated f
+pub negated-is : (f : Field ℕ) (n next : ℕ) → f ≡ Number n next → n ≤ cap → (n ≡ 0 → ⊥) → Number (to_z w64 (of_z w64 (pos 0 -ℤ to_z w64 n))) next ≡ negated f
 negated-is f n next e h z = rw (e, to_z_pos w64 {n = n} (omega arith), minus n, bits_back (neg_ℤ (pos n)) (omega (arith, mag-minus n)), ne_eqb n 0 z)
 
 -- ---- a field that reads as a number is not empty, so it stands in the line
@@ -199,25 +193,25 @@ within-number (b ∷ s) at long g = by (number (b ∷ s))
     by none = tt
     by (some n) = omega arith
 
-pub within-time : (part : List ℕ) (at long : ℕ) → length part ≤ long - at → WithinTime long (time_of (signed part) (at + length part + 1))
+pub within-time : (part : List ℕ) (at long : ℕ) → length part ≤ long - at → Within long (time_of (signed part) (at + length part + 1))
 unfolding signed
 within-time [] at long g = tt
 within-time (b ∷ s) at long g = by (signed (b ∷ s))
   where
-    by : (o : Option ℤ) → WithinTime long (time_of o (at + length (b ∷ s) + 1))
+    by : (o : Option ℤ) → Within long (time_of o (at + length (b ∷ s) + 1))
     by none = tt
     by (some n) = omega arith
 
 -- ---- a time from what a number reader answered
-pub small-made : (o : Option ℕ) (next : ℕ) (f : Field) → f ≡ field_of o next → Small f
+pub small-made : (o : Option ℕ) (next : ℕ) (f : Field ℕ) → f ≡ field_of o next → Small f
 small-made o next f e = rw e (small-field o next)
 
-pub minus-made : (s : List ℕ) (next : ℕ) (f : Field) (r : SignedField) → 0 < length s → get_or s 0 0 ≡ 45
+pub minus-made : (s : List ℕ) (next : ℕ) (f : Field ℕ) (r : Field ℤ) → 0 < length s → get_or s 0 0 ≡ 45
     → f ≡ field_of (number (take (length s - 1) (drop 1 s))) next → r ≡ negated f → r ≡ time_of (signed s) next
 minus-made s next f r h m e g =
     let whole : take (length s - 1) (drop 1 s) ≡ drop 1 s = take_all (length s - 1) (drop 1 s) (omega (arith, length-drop 1 s)) in
     rw (signed-minus s next h m, ← whole, ← e) g
 
-pub plain-made : (s : List ℕ) (next : ℕ) (f : Field) (r : SignedField) → 0 < length s → (get_or s 0 0 ≡ 45 → ⊥)
+pub plain-made : (s : List ℕ) (next : ℕ) (f : Field ℕ) (r : Field ℤ) → 0 < length s → (get_or s 0 0 ≡ 45 → ⊥)
     → f ≡ field_of (number s) next → r ≡ kept f → r ≡ time_of (signed s) next
 plain-made s next f r h m e g = rw (signed-plain s next h m, ← e) g

@@ -4,33 +4,25 @@
 #![tactic(auto)]
 
 ghost use Rattle.std.specs.Prelude.{◌≡◌, ◌+◌, ◌<◌, ◌≤◌, length, drop};
-ghost use Rattle.rules.specs.Text.{is_digit, more_digits, number, signed};
+ghost use Rattle.rules.specs.Text.{more_digits, number, signed};
 ghost use Rattle.text.specs.Stretches.{tab, lead, stretch};
 ghost use Rattle.text.specs.Fields.{NumberAt, TimeAt};
-ghost use Rattle.text.specs.Numbers.{cap, grown, field_of, time_of, Small, negated, kept};
+ghost use Rattle.text.specs.Numbers.{cap, grown, field_of, time_of};
 
 const TAB: u8 = b'\t';
 
 const ZERO: u8 = b'0';
-
-const NINE: u8 = b'9';
 
 const MINUS: u8 = b'-';
 
 // Above every range, and far below what ten times it would overflow.
 const CAP: u64 = 10_000_000_000_000;
 
-// What a field reads as, with where the next field would start.
+// What a field reads as, a number or a required time, with where the next field would start. It is no `Option`: each reader of a line
+// names its cases, as the paper does.
 #[derive(Clone, Copy)]
-pub enum Field {
-    Number(u64, usize),
-    Bad,
-}
-
-// The same of a required time, which may have a minus.
-#[derive(Clone, Copy)]
-pub enum SignedField {
-    Number(i64, usize),
+pub enum Field<N> {
+    Number(N, usize),
     Bad,
 }
 
@@ -39,14 +31,10 @@ pub fn stretch_end(s: &[u8], from: usize, by: u8) -> usize
     requires { from ≤ length s.now }
     ensures { result ≡ from + lead by (drop from s.now) }
 {
-    let mut i = from;
-    while i < s.len() {
-        if s[i] == by {
-            return i;
-        }
-        i += 1;
+    match s[from..].iter().position(|b| *b == by) {
+        Some(long) => from + long,
+        None => s.len(),
     }
-    i
 }
 
 // The field that starts at a place of a line, as its own stretch of the text; past the line there is none, and it is empty.
@@ -60,103 +48,67 @@ pub fn field_at(line: &[u8], at: usize) -> &[u8]
     &line[at..end]
 }
 
-fn is_digit(b: u8) -> bool
-    ensures { result ≡ is_digit 48 b }
-{
-    if b < ZERO {
-        return false;
-    }
-    b <= NINE
-}
-
 // A number with one digit more, or the cap.
 fn grow(n: u64, b: u8) -> u64
     requires { (n ≤ cap) × ((48 ≤ b) × (b ≤ 57)) }
     ensures { result ≡ grown n b }
 {
-    let more = 10 * n + (b - ZERO) as u64;
-    if more < CAP {
-        return more;
-    }
-    CAP
+    (10 * n + u64::from(b - ZERO)).min(CAP)
 }
 
 // The number that a part's digits state, zeros in front let through.
-fn digits_of(part: &[u8], next: usize) -> Field
+fn digits_of(part: &[u8], next: usize) -> Field<u64>
     ensures { result ≡ field_of (more_digits 0 part.now) next }
 {
-    let mut n: u64 = 0;
-    let mut i = 0;
-    while i < part.len() {
-        let b = part[i];
-        if is_digit(b) {
-            n = grow(n, b);
-            i += 1;
-        } else {
+    let mut n = 0;
+    for b in part {
+        if !b.is_ascii_digit() {
             return Field::Bad;
         }
+        n = grow(n, *b);
     }
     Field::Number(n, next)
 }
 
 // The number that a part states: decimal, without leading zeros or sign.
 #[tactic(auto, using(crate::proofs::Numbers::leading))]
-pub fn number_of(part: &[u8], next: usize) -> Field
+pub fn number_of(part: &[u8], next: usize) -> Field<u64>
     ensures { result ≡ field_of (number part.now) next }
 {
-    if part.len() == 0 {
+    let [first, others @ ..] = part else {
         return Field::Bad;
-    }
-    if part.len() == 1 {
-        return digits_of(part, next);
-    }
-    if part[0] == ZERO {
+    };
+    if *first == ZERO && !others.is_empty() {
         return Field::Bad;
     }
     digits_of(part, next)
 }
 
-// What was read as it stands, and with a minus before it: `-0` is malformed.
-fn unsigned_time(f: Field) -> SignedField
-    requires { Small f }
-    ensures { result ≡ kept f }
-{
-    match f {
-        Field::Number(n, next) => SignedField::Number(n as i64, next),
-        Field::Bad => SignedField::Bad,
-    }
-}
-
-fn minus_time(f: Field) -> SignedField
-    requires { Small f }
-    ensures { result ≡ negated f }
-{
-    match f {
-        Field::Number(n, next) => {
-            if n == 0 {
-                return SignedField::Bad;
-            }
-            SignedField::Number(-(n as i64), next)
-        }
-        Field::Bad => SignedField::Bad,
-    }
-}
-
 // The time that a part states: a number, or a minus and a number that is not 0.
-pub fn signed_of(part: &[u8], next: usize) -> SignedField
+pub fn signed_of(part: &[u8], next: usize) -> Field<i64>
     ensures { result ≡ time_of (signed part.now) next }
 {
-    if part.len() == 0 {
-        return SignedField::Bad;
+    let [first, others @ ..] = part else {
+        return Field::Bad;
+    };
+    if *first != MINUS {
+        let Field::Number(n, next) = number_of(part, next) else {
+            return Field::Bad;
+        };
+        return Field::Number(n as i64, next);
     }
-    if part[0] == MINUS {
-        return minus_time(number_of(&part[1..], next));
+    let Field::Number(n, next) = number_of(others, next) else {
+        return Field::Bad;
+    };
+    if n == 0 {
+        return Field::Bad;
     }
-    unsigned_time(number_of(part, next))
+    Field::Number(-(n as i64), next)
 }
 
-// The number, and the time, of the field that starts at a place of a line.
-pub fn number_at(line: &[u8], at: usize) -> Field
+// The number, and the time, of the field that starts at a place of a line. Each hands the field to its own reader: one function for both
+// would need a trait with a clause and a law for what is two lines.
+pub fn number_at(line: &[u8], at: usize) -> Field<u64>
     requires { at ≤ length line.now + 2 }
     ensures { NumberAt line.now at result }
 {
@@ -164,7 +116,7 @@ pub fn number_at(line: &[u8], at: usize) -> Field
     number_of(part, at + part.len() + 1)
 }
 
-pub fn signed_at(line: &[u8], at: usize) -> SignedField
+pub fn signed_at(line: &[u8], at: usize) -> Field<i64>
     requires { at ≤ length line.now + 2 }
     ensures { TimeAt line.now at result }
 {

@@ -1,7 +1,8 @@
 // One turn of a pass by value: what is read at two places decides what is put at a third, and where the pass goes on.
 #![tactic(auto)]
 
-ghost use Rattle.std.specs.Prelude.{◌≡◌};
+ghost use Rattle.std.specs.Prelude.{◌≡◌, pos};
+ghost use Rattle.rules.specs.Areas.{zeros};
 ghost use Rattle.values.specs.Records.{cand_of};
 ghost use Rattle.turns.specs.Turns.{pass_of, Here, Can, Turned};
 
@@ -30,7 +31,8 @@ pub enum Step {
     Branch(usize, usize),
 }
 
-// A pass: what is left of it, where it reads and writes, and what it holds.
+// A pass: what is left of it, where it reads and writes, and what it holds. What a turn asks of it, `Here`, is no invariant: a pass that is
+// over has nothing left, and may write past the room next.
 #[derive(Clone, Copy)]
 pub struct Pass {
     pub step: Step,
@@ -49,35 +51,28 @@ pub struct Turn {
     pub next: Pass,
 }
 
-pub fn pass_at(
-    step: Step,
-    left: usize,
-    from: usize,
-    with: usize,
-    to: usize,
-    held: Cand,
-    worth: Femtosecond,
-) -> Pass
-    ensures { result ≡ pass_of step left from with to held worth }
+// A pass that stands at a place, with nothing to do and nothing held.
+pub fn idle_at(at: usize) -> Pass
+    ensures { result ≡ pass_of Step.Put 0 at at at zeros (record { 0 = pos 0 }) }
 {
     Pass {
-        step: step,
-        left: left,
-        from: from,
-        with: with,
-        to: to,
-        held: held,
-        worth: worth,
+        step: Step::Put,
+        left: 0,
+        from: at,
+        with: at,
+        to: at,
+        held: values::blank(),
+        worth: Femtosecond(0),
     }
 }
 
 // The turn that the pass's step says.
+// The step is a value of the pass, not a closure: what the theorems of `stands` say of a sweep is said for each step (`Can`, `Turned`).
 pub fn turn_of(p: Pass, x: Cand, y: Cand) -> Turn
     requires { Here p × Can p.step (cand_of x) (cand_of y) }
     ensures { Turned p.step p x y result }
 {
-    let step = p.step;
-    match step {
+    match p.step {
         Step::Put => moving::put_turn(p),
         Step::Move => moving::move_turn(p, x),
         Step::FirstWire(r, c) => working::first_wire_turn(p, x, r, c),

@@ -2,34 +2,33 @@
 ghost use Rattle.std.specs.Prelude.{◌≡◌, ◌+◌, ◌-◌, ◌≤◌, ◌<◌};
 ghost use Rattle.turns.specs.Turns.{pass_of, Here, Putting, Moving, Inserting, Shifting};
 
-use crate::{Pass, Step, Turn, pass_at};
+use crate::{Pass, Step, Turn};
 use rules::Cand;
 
 pub fn put_turn(p: Pass) -> Turn
     requires { Here p }
     ensures { Putting p result }
 {
-    let held = p.held;
-    let worth = p.worth;
-    let next = pass_at(Step::Put, p.left - 1, p.from, p.with, p.to + 1, held, worth);
-    Turn { put: held, next }
+    let next = Pass {
+        step: Step::Put,
+        left: p.left - 1,
+        to: p.to + 1,
+        ..p
+    };
+    Turn { put: p.held, next }
 }
 
 pub fn move_turn(p: Pass, x: Cand) -> Turn
     requires { Here p }
     ensures { Moving p x result }
 {
-    let held = p.held;
-    let worth = p.worth;
-    let next = pass_at(
-        Step::Move,
-        p.left - 1,
-        p.from + 1,
-        p.with,
-        p.to + 1,
-        held,
-        worth,
-    );
+    let next = Pass {
+        step: Step::Move,
+        left: p.left - 1,
+        from: p.from + 1,
+        to: p.to + 1,
+        ..p
+    };
     Turn { put: x, next }
 }
 
@@ -38,18 +37,15 @@ pub fn shift_turn(p: Pass, x: Cand) -> Turn
     requires { Here p }
     ensures { Shifting p x result }
 {
-    let held = p.held;
-    let worth = p.worth;
-    let next = pass_at(
-        Step::Shift,
-        p.left - 1,
-        p.from + 1,
-        p.with,
-        p.to + 1,
-        x,
-        worth,
-    );
-    Turn { put: held, next }
+    let next = Pass {
+        step: Step::Shift,
+        left: p.left - 1,
+        from: p.from + 1,
+        to: p.to + 1,
+        held: x,
+        ..p
+    };
+    Turn { put: p.held, next }
 }
 
 // x stays, or goes: the one held goes on to the next place or to the same.
@@ -57,17 +53,13 @@ fn search_turn(p: Pass, x: Cand, to: usize) -> Turn
     requires { Here p }
     ensures { (result.put ≡ x) × (result.next ≡ pass_of Step.Insert (p.left - 1) (p.from + 1) p.with to p.held p.worth) }
 {
-    let held = p.held;
-    let worth = p.worth;
-    let next = pass_at(
-        Step::Insert,
-        p.left - 1,
-        p.from + 1,
-        p.with,
+    let next = Pass {
+        step: Step::Insert,
+        left: p.left - 1,
+        from: p.from + 1,
         to,
-        held,
-        worth,
-    );
+        ..p
+    };
     Turn { put: x, next }
 }
 
@@ -77,17 +69,13 @@ fn covered_turn(p: Pass, x: Cand) -> Turn
     requires le_left { 2 ≤ p.left }
     ensures { (result.put ≡ x) × (result.next ≡ pass_of Step.Move (p.left - 2) (p.from + 1) p.with (p.to + 1) p.held p.worth) }
 {
-    let held = p.held;
-    let worth = p.worth;
-    let next = pass_at(
-        Step::Move,
-        p.left - 2,
-        p.from + 1,
-        p.with,
-        p.to + 1,
-        held,
-        worth,
-    );
+    let next = Pass {
+        step: Step::Move,
+        left: p.left - 2,
+        from: p.from + 1,
+        to: p.to + 1,
+        ..p
+    };
     Turn { put: x, next }
 }
 
@@ -95,22 +83,17 @@ pub fn insert_turn(p: Pass, x: Cand) -> Turn
     requires { Here p }
     ensures { Inserting p x result }
 {
+    let held = values::pair_of(p.held);
+    let other = values::pair_of(x);
     if p.left < 2 {
-        return shift_turn(p, x);
+        shift_turn(p, x)
+    } else if other.is_below(held) {
+        search_turn(p, x, p.to + 1)
+    } else if held.is_covered(other) {
+        covered_turn(p, x)
+    } else if held.is_covering(other) {
+        search_turn(p, x, p.to)
+    } else {
+        shift_turn(p, x)
     }
-    let c = p.held;
-    let load = c.load;
-    let time = c.time;
-    let other = x.load;
-    let when = x.time;
-    if pairs::is_below(other, when, load, time) {
-        return search_turn(p, x, p.to + 1);
-    }
-    if pairs::is_covered(load, time, other, when) {
-        return covered_turn(p, x);
-    }
-    if pairs::is_covering(load, time, other, when) {
-        return search_turn(p, x, p.to);
-    }
-    shift_turn(p, x)
 }

@@ -5,7 +5,7 @@ ghost use Rattle.values.specs.Records.{cand_of};
 ghost use Rattle.values.specs.Values.{Chooses, Wires};
 ghost use Rattle.turns.specs.Turns.{Here, Can, FirstWiring, Wiring, FirstChoosing, Choosing, Branching, both_left};
 
-use crate::{Pass, Step, Turn, pass_at};
+use crate::{Pass, Step, Turn};
 use rules::{Cand, Femtofarad, Femtosecond, Ohm};
 
 pub fn first_wire_turn(p: Pass, x: Cand, r: Ohm, c: Femtofarad) -> Turn
@@ -13,20 +13,18 @@ pub fn first_wire_turn(p: Pass, x: Cand, r: Ohm, c: Femtofarad) -> Turn
     requires wires { Wires r c (cand_of x) }
     ensures { FirstWiring r c p x result }
 {
-    let put = values::wired(x, r, c);
-    let held = p.held;
-    let worth = p.worth;
-    let to = p.to;
-    let next = pass_at(
-        Step::Wire(r, c),
-        p.left - 1,
-        p.from + 1,
-        to,
-        to + 1,
-        held,
-        worth,
-    );
-    Turn { put, next }
+    let next = Pass {
+        step: Step::Wire(r, c),
+        left: p.left - 1,
+        from: p.from + 1,
+        with: p.to,
+        to: p.to + 1,
+        ..p
+    };
+    Turn {
+        put: values::wired(x, r, c),
+        next,
+    }
 }
 
 pub fn wire_turn(p: Pass, x: Cand, y: Cand, r: Ohm, c: Femtofarad) -> Turn
@@ -35,33 +33,21 @@ pub fn wire_turn(p: Pass, x: Cand, y: Cand, r: Ohm, c: Femtofarad) -> Turn
     ensures { Wiring r c p x y result }
 {
     let put = values::wired(x, r, c);
-    let held = p.held;
-    let worth = p.worth;
-    let to = p.to;
-    let late = put.time;
-    let last = y.time;
-    if units::is_later(late, last) {
-        let next = pass_at(
-            Step::Wire(r, c),
-            p.left - 1,
-            p.from + 1,
-            to,
-            to + 1,
-            held,
-            worth,
-        );
+    let on = Pass {
+        step: Step::Wire(r, c),
+        left: p.left - 1,
+        from: p.from + 1,
+        ..p
+    };
+    if units::is_later(put.time, y.time) {
+        let next = Pass {
+            with: p.to,
+            to: p.to + 1,
+            ..on
+        };
         return Turn { put, next };
     }
-    let next = pass_at(
-        Step::Wire(r, c),
-        p.left - 1,
-        p.from + 1,
-        p.with,
-        to,
-        held,
-        worth,
-    );
-    Turn { put, next }
+    Turn { put, next: on }
 }
 
 pub fn first_choice_turn(p: Pass, x: Cand, own: Femtosecond, r: Ohm) -> Turn
@@ -69,16 +55,15 @@ pub fn first_choice_turn(p: Pass, x: Cand, own: Femtosecond, r: Ohm) -> Turn
     requires chooses { Chooses own r (cand_of x) }
     ensures { FirstChoosing own r p x result }
 {
-    let worth = values::worth(x, own, r);
-    let next = pass_at(
-        Step::Choose(own, r),
-        p.left - 1,
-        p.from + 1,
-        p.with,
-        p.to + 1,
-        x,
-        worth,
-    );
+    let next = Pass {
+        step: Step::Choose(own, r),
+        left: p.left - 1,
+        from: p.from + 1,
+        to: p.to + 1,
+        held: x,
+        worth: values::worth(x, own, r),
+        ..p
+    };
     Turn { put: x, next }
 }
 
@@ -87,31 +72,23 @@ pub fn choose_turn(p: Pass, x: Cand, own: Femtosecond, r: Ohm) -> Turn
     requires chooses { Chooses own r (cand_of x) }
     ensures { Choosing own r p x result }
 {
-    let held = p.held;
-    let best = p.worth;
+    let on = Pass {
+        step: Step::Choose(own, r),
+        left: p.left - 1,
+        from: p.from + 1,
+        to: p.to + 1,
+        ..p
+    };
     let worth = values::worth(x, own, r);
-    if units::is_later(worth, best) {
-        let next = pass_at(
-            Step::Choose(own, r),
-            p.left - 1,
-            p.from + 1,
-            p.with,
-            p.to + 1,
-            x,
+    if units::is_later(worth, p.worth) {
+        let next = Pass {
+            held: x,
             worth,
-        );
+            ..on
+        };
         return Turn { put: x, next };
     }
-    let next = pass_at(
-        Step::Choose(own, r),
-        p.left - 1,
-        p.from + 1,
-        p.with,
-        p.to + 1,
-        held,
-        best,
-    );
-    Turn { put: x, next }
+    Turn { put: x, next: on }
 }
 
 // How much of two lists is left: nothing where one of them is done.
@@ -119,22 +96,15 @@ fn both_left(left: usize, i: usize, j: usize, end: usize, mid: usize) -> usize
     requires { 0 < left }
     ensures { result ≡ both_left left i j end mid }
 {
-    if i < end {
-        if j < mid {
-            return left - 1;
-        }
-    }
-    0
+    if i < end && j < mid { left - 1 } else { 0 }
 }
 
-// 1 unless x is later than y.
+// 1 unless x is later than y. A number and no bool: it is added to a place.
 fn not_later(x: Cand, y: Cand) -> usize
     ensures small { result ≤ 1 }
     ensures value { result ≡ cond (lt_z y.time.0 x.time.0) 0 1 }
 {
-    let a = x.time;
-    let b = y.time;
-    if units::is_later(a, b) { 0 } else { 1 }
+    usize::from(!units::is_later(x.time, y.time))
 }
 
 pub fn branch_turn(p: Pass, x: Cand, y: Cand, end: usize, mid: usize) -> Turn
@@ -142,14 +112,18 @@ pub fn branch_turn(p: Pass, x: Cand, y: Cand, end: usize, mid: usize) -> Turn
     requires can { Can (Step.Branch end mid) (cand_of x) (cand_of y) }
     ensures { Branching end mid p x y result }
 {
-    let put = values::joined(x, y);
-    let held = p.held;
-    let worth = p.worth;
-    let first = not_later(x, y);
-    let second = not_later(y, x);
-    let i = p.from + first;
-    let j = p.with + second;
-    let left = both_left(p.left, i, j, end, mid);
-    let next = pass_at(Step::Branch(end, mid), left, i, j, p.to + 1, held, worth);
-    Turn { put, next }
+    let i = p.from + not_later(x, y);
+    let j = p.with + not_later(y, x);
+    let next = Pass {
+        step: Step::Branch(end, mid),
+        left: both_left(p.left, i, j, end, mid),
+        from: i,
+        with: j,
+        to: p.to + 1,
+        ..p
+    };
+    Turn {
+        put: values::joined(x, y),
+        next,
+    }
 }

@@ -16,9 +16,7 @@ pub fn delay(r: Ohm, c: Femtofarad) -> Femtosecond
     ensures value { result.0 ≡ pos (r.0 * c.0) }
     ensures size { mag result.0 ≤ most_delay }
 {
-    let ohms = r.0 as i64;
-    let femtofarads = c.0 as i64;
-    Femtosecond(ohms * femtofarads)
+    Femtosecond(i64::from(r.0) * i64::from(c.0))
 }
 
 // A time less another. Neither reaches so far from zero that the difference would not fit.
@@ -27,18 +25,14 @@ pub fn less(t: Femtosecond, d: Femtosecond) -> Femtosecond
     ensures value { result.0 ≡ t.0 -ℤ d.0 }
     ensures size { mag result.0 ≤ mag t.0 + mag d.0 + 1 }
 {
-    let from = t.0;
-    let by = d.0;
-    Femtosecond(from - by)
+    Femtosecond(t.0 - d.0)
 }
 
-// The one comparison of times: every branch on times is on its answer.
+// The one comparison of times: every branch on times is on its answer. A derived order would only move the body.
 pub fn is_later(a: Femtosecond, b: Femtosecond) -> bool
     ensures { result ≡ lt_z b.0 a.0 }
 {
-    let x = a.0;
-    let y = b.0;
-    x > y
+    a.0 > b.0
 }
 
 // The lesser of two times: where branches meet it counts for both.
@@ -46,7 +40,7 @@ pub fn earlier(a: Femtosecond, b: Femtosecond) -> Femtosecond
     ensures value { result.0 ≡ minℤ a.0 b.0 }
     ensures size { mag result.0 ≤ max (mag a.0) (mag b.0) }
 {
-    if is_later(a, b) { b } else { a }
+    Femtosecond(a.0.min(b.0))
 }
 
 // Loads beside each other, or a wire's capacitance and the load at its far end.
@@ -54,9 +48,7 @@ pub fn together(a: Femtofarad, b: Femtofarad) -> Femtofarad
     requires { a.0 + b.0 ≤ most_load }
     ensures { result.0 ≡ a.0 + b.0 }
 {
-    let x = a.0;
-    let y = b.0;
-    Femtofarad(x + y)
+    Femtofarad(a.0 + b.0)
 }
 
 // A field that is a time already: a type's own delay.
@@ -64,5 +56,5 @@ pub fn time_of(x: u32) -> Femtosecond
     ensures value { result.0 ≡ pos x }
     ensures size { mag result.0 ≡ x }
 {
-    Femtosecond(x as i64)
+    Femtosecond(i64::from(x))
 }

@@ -3,11 +3,15 @@ use Rattle.std.specs.Prelude.{List, [], ◌∷◌, map}
 use Rattle.rules.specs.declared.Femtofarad.{Femtofarad}
 use Rattle.rules.specs.declared.Femtosecond.{Femtosecond}
 use Rattle.rules.specs.Placements.{marks}
+use Rattle.pairs.specs.declared.Pair.{Pair}
 use Rattle.columns.specs.Run.{Candidate, candidate}
 use Rattle.rules.specs.declared.Cand.{Cand}
 
 abbrev pub cand_of : Cand → Candidate
 cand_of c = candidate c.load.0 c.time.0 (marks c.words)
+
+abbrev pub pair_of : Cand → Pair
+pair_of c = record { load = c.load; time = c.time }
 
 -- a record with no marks
 abbrev pub plain_of : Femtofarad → Femtosecond → Cand

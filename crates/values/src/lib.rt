@@ -12,9 +12,10 @@ ghost use Rattle.rules.specs.Placements.{marks};
 ghost use Rattle.rules.specs.Areas.{zeros};
 ghost use Rattle.columns.specs.Run.{candidate};
 ghost use Rattle.columns.specs.Made.{Fit, wire_of};
-ghost use Rattle.values.specs.Records.{cand_of, plain_of};
+ghost use Rattle.values.specs.Records.{cand_of, pair_of, plain_of};
 ghost use Rattle.values.specs.Values.{Wires, Chooses, worth_of};
 
+use pairs::Pair;
 use rules::{Cand, Femtofarad, Femtosecond, Ohm};
 
 // A record with no marks: a sink's pin, or what an area of zeros holds.
@@ -24,7 +25,7 @@ pub fn unmarked(load: Femtofarad, time: Femtosecond) -> Cand
     Cand {
         load,
         time,
-        words: [0, 0, 0, 0],
+        words: [0; 4],
     }
 }
 
@@ -35,17 +36,24 @@ pub fn blank() -> Cand
     unmarked(Femtofarad(0), Femtosecond(0))
 }
 
+// Its load and its time, without its placement.
+pub fn pair_of(x: Cand) -> Pair
+    ensures { result ≡ pair_of x }
+{
+    Pair {
+        load: x.load,
+        time: x.time,
+    }
+}
+
 // Behind a wire.
 pub fn wired(x: Cand, r: Ohm, c: Femtofarad) -> Cand
     requires { Wires r c (cand_of x) }
     ensures { cand_of result ≡ behind (wire_of r.0 c.0) (cand_of x) }
 {
-    let own = x.load;
-    let when = x.time;
-    let words = x.words;
-    let load = units::together(c, own);
-    let time = pairs::time_before(when, r, load);
-    Cand { load, time, words }
+    let load = units::together(c, x.load);
+    let time = pairs::time_before(x.time, r, load);
+    Cand { load, time, ..x }
 }
 
 // Two candidates that meet at a branch.
@@ -53,17 +61,12 @@ pub fn joined(x: Cand, y: Cand) -> Cand
     requires { Fit (joined join_marks (cand_of x) (cand_of y)) }
     ensures { cand_of result ≡ joined join_marks (cand_of x) (cand_of y) }
 {
-    let a = x.load;
-    let b = y.load;
-    let s = x.time;
-    let t = y.time;
-    let u = x.words;
-    let v = y.words;
-    let pair = pairs::joined(a, s, b, t);
-    let load = pair.load;
-    let time = pair.time;
-    let words = marks::joined(u, v);
-    Cand { load, time, words }
+    let pair = pair_of(x).joined(pair_of(y));
+    Cand {
+        load: pair.load,
+        time: pair.time,
+        words: marks::joined(x.words, y.words),
+    }
 }
 
 // What a repeater's or the driver's input sees of a candidate: its time before the delay.
@@ -71,9 +74,7 @@ pub fn worth(x: Cand, own: Femtosecond, r: Ohm) -> Femtosecond
     requires { Chooses own r (cand_of x) }
     ensures { result ≡ worth_of own r x }
 {
-    let load = x.load;
-    let time = x.time;
-    pairs::time_before_repeater(time, own, r, load)
+    pairs::time_before_repeater(x.time, own, r, x.load)
 }
 
 // Behind a repeater of type m at site k: the type's input load, and the time that was worked out from the load driven.
@@ -81,11 +82,9 @@ pub fn typed(x: Cand, input: Femtofarad, time: Femtosecond, k: usize, m: u64) ->
     requires { (k < sites_room) × (m < marks_end) }
     ensures { cand_of result ≡ candidate input.0 time.0 (with_mark k m (marks x.words)) }
 {
-    let a = x.words;
-    let words = marks::with_mark(a, k, m);
     Cand {
         load: input,
         time,
-        words,
+        words: marks::with_mark(x.words, k, m),
     }
 }

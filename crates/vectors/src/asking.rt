@@ -1,124 +1,127 @@
 // Each entry asked once, and its answer said.
-use crate::{listing, saying};
+use asked::listing::{Listed, Loaded};
 use asked::planning::Planned;
-use cases::places;
-use cases::places::Place;
-use cases::words::Word;
-use lending::{stamps, sums};
-use rooms::{PLACEMENT_ROOM, ROW_WORDS, TYPE_WORDS};
-use rules::{Checking, Planning, Reading, Slacking};
+use cases::requests::Question;
+use cases::setup::Setup;
+use lending::work::Left;
+use rooms::PLACEMENT_ROOM;
+use rules::{Counted, Refusal, Timed};
+use writing::{Figures, Marks, Refused, say};
 
-// The sum over the words in use, and whether the words after them are kept.
-fn sum_line(types: &[u32], rows: &[u32], due: &[i64], t: usize, r: usize, d: usize) {
-    saying::say(b" sum");
-    saying::sum(sums::sum_of(types, rows, due, t, r, d));
-    saying::kept(stamps::tables_kept(types, rows, due, t, r, d));
+fn kept(good: bool) -> &'static str {
+    if good { "kept" } else { "changed" }
 }
 
-// The answer's line of a text that was read, and the place with its counts.
-fn read_line(p: Place, answer: Reading, types: &[u32], rows: &[u32], due: &[i64]) -> Place {
+fn cleared(good: bool) -> &'static str {
+    if good { "cleared" } else { "left" }
+}
+
+// What a call left of its areas.
+fn say_left(left: Left) {
+    say!(" {} {}", kept(left.kept), cleared(left.cleared));
+}
+
+fn say_refused(r: Refusal, left: bool) {
+    say!(" {} {}", Refused(r), kept(left));
+}
+
+// A text that was read: its counts, which the tables have from now on, and the sum over the words in use, which goes below zero where it
+// reaches the upper half.
+fn read(setup: &mut Setup) {
+    let answer = asked::tables::read(setup.text.as_slice(), &mut setup.tables);
+    let tables = &mut setup.tables;
+    let counted = answer.unwrap_or(Counted { types: 0, rows: 0 });
+    tables.type_count = counted.types as usize;
+    tables.row_count = counted.rows as usize;
+    let kept_past = tables.kept(counted);
     match answer {
-        Reading::Refused(r) => {
-            saying::refused(r);
-            saying::kept(stamps::tables_kept(types, rows, due, 0, 0, 0));
-            places::counted(p, 0, 0)
+        Err(r) => say_refused(r, kept_past),
+        Ok(Counted { types, rows }) => {
+            let sum = tables.sum(counted).cast_signed();
+            say!(" accepted {types} {rows} sum {sum} {}", kept(kept_past));
         }
-        Reading::Read { types: t, rows: r } => {
-            saying::say(b" accepted");
-            saying::number(t as u64);
-            saying::number(r as u64);
-            sum_line(
-                types,
-                rows,
-                due,
-                TYPE_WORDS * t as usize,
-                ROW_WORDS * r as usize,
-                r as usize,
-            );
-            places::counted(p, t as usize, r as usize)
-        }
     }
 }
 
-pub fn read(p: Place, text: &[u8], types: &mut [u32], rows: &mut [u32], due: &mut [i64]) -> Place {
-    let answer = asked::tables::read(text, types, rows, due, p.text, p.types, p.rows, p.due);
-    let q = read_line(p, answer, types, rows, due);
-    saying::say(b"\n");
-    q
-}
-
-fn check_line(answer: Checking) {
+fn say_checked(answer: Result<(), Refusal>) {
     match answer {
-        Checking::Refused(r) => saying::refused(r),
-        Checking::Accepted => saying::say(b" accepted"),
+        Err(r) => say!(" {}", Refused(r)),
+        Ok(()) => say!(" accepted"),
     }
 }
 
-fn slack_line(answer: Slacking) {
+fn say_slack(answer: Result<Timed, Refusal>) {
     match answer {
-        Slacking::Refused(r) => saying::refused(r),
-        Slacking::Slack { slack, load } => saying::slack_and_load(slack, load),
+        Err(r) => say!(" {}", Refused(r)),
+        Ok(timed) => say!(" {}", Figures(timed)),
     }
 }
 
-fn plan_line(planned: Planned) {
-    let answer = planned.answer;
+fn say_planned(planned: Planned) {
     let left = planned.left;
-    match answer {
-        Planning::Refused(r) => {
-            saying::refused(r);
-            saying::kept(left.kept);
-        }
-        Planning::Planned { slack, load } => {
-            saying::slack_and_load(slack, load);
-            saying::left(left);
+    match planned.answer {
+        Err(r) => say_refused(r, left.kept),
+        Ok(timed) => {
+            say!(" {}", Figures(timed));
+            say_left(left);
         }
     }
 }
 
-fn marks(best: &[u64; PLACEMENT_ROOM]) {
-    saying::marks(best[0]);
-    saying::marks(best[1]);
-    saying::marks(best[2]);
-    saying::marks(best[3]);
-}
-
-// A question that takes the tables as they are, at the lengths lent.
-fn of_parts(
-    p: Place,
-    word: Word,
-    n: &[u64; 6],
-    types: &[u32],
-    rows: &[u32],
-    due: &[i64],
-    best: &mut [u64; PLACEMENT_ROOM],
-) {
-    let t = p.type_count;
-    let r = p.row_count;
-    match word {
-        Word::Check => check_line(net::check_net(types, rows, due, t, r)),
-        Word::Slack => slack_line(asked::tables::slack(types, rows, due, t, r, n)),
-        Word::Plan => plan_line(asked::planning::plan(types, rows, due, t, r, n, best)),
-        Word::Marks => marks(best),
-        Word::Planned => slack_line(slack::slack_of(types, rows, due, t, r, best)),
-        Word::List => listing::list(types, rows, due, t, r, n),
-        Word::Loads => listing::loads_alone(types, rows, due, t, r, n),
-        _ => saying::say(b" none"),
+// The pairs of a list, load and time of each.
+fn say_listed(listed: Listed) {
+    let left = listed.left;
+    match listed.answer {
+        Err(r) => say_refused(r, left.kept),
+        Ok(length) => {
+            say!(" length {length} pairs");
+            let pairs = listed.loads.iter().zip(listed.times.iter());
+            for (load, time) in pairs.take(length as usize) {
+                say!(" {load} {time}");
+            }
+            say_left(left);
+        }
     }
 }
 
-pub fn of_tables(
-    p: Place,
-    word: Word,
-    n: &[u64; 6],
-    types: &[u32],
-    rows: &[u32],
-    due: &[i64],
-    best: &mut [u64; PLACEMENT_ROOM],
-) {
-    let t = stamps::least(p.types, types.len());
-    let r = stamps::least(p.rows, rows.len());
-    let d = stamps::least(p.due, due.len());
-    of_parts(p, word, n, &types[..t], &rows[..r], &due[..d], best);
-    saying::say(b"\n");
+// The loads of a list.
+fn say_loaded(loaded: Loaded) {
+    let left = loaded.left;
+    match loaded.answer {
+        Err(r) => say_refused(r, left.kept),
+        Ok(length) => {
+            say!(" length {length} loads");
+            for load in loaded.loads.iter().take(length as usize) {
+                say!(" {load}");
+            }
+            say_left(left);
+        }
+    }
+}
+
+// A question asked: all but `read` take the tables as they are, at the lengths lent.
+pub fn ask(question: Question, setup: &mut Setup, best: &mut [u64; PLACEMENT_ROOM]) {
+    match question {
+        Question::Read => read(setup),
+        Question::Check => say_checked(net::check_net(&setup.tables.net())),
+        Question::Slack { lent, placement } => {
+            say_slack(asked::tables::slack(&setup.tables.net(), lent, placement));
+        }
+        Question::Plan { placement, work } => {
+            say_planned(asked::planning::plan(&setup.tables.net(), placement, work, best));
+        }
+        Question::Marks => say!(" {}", Marks(*best)),
+        Question::Planned => say_slack(slack::slack_of(&setup.tables.net(), best)),
+        Question::List {
+            row,
+            loads,
+            times,
+            work,
+        } => {
+            say_listed(asked::listing::list(&setup.tables.net(), row, loads, times, work));
+        }
+        Question::Loads { row, loads, work } => {
+            say_loaded(asked::listing::loads_alone(&setup.tables.net(), row, loads, work));
+        }
+    }
 }

@@ -22,63 +22,46 @@
 #![tactic(auto)]
 
 mod asking;
-mod listing;
-mod requests;
-mod saying;
 
-use cases::places::Step;
+use cases::requests;
+use cases::requests::Request;
+use cases::setup::Setup;
 use rooms::PLACEMENT_ROOM;
+use writing::say;
 
 const INPUT_ROOM: usize = 262_144;
 
-// Every turn takes a line, so there are no more turns than bytes; the count makes that plain.
-fn run(
-    input: &[u8],
-    text: &mut [u8],
-    types: &mut [u32],
-    rows: &mut [u32],
-    due: &mut [i64],
-    best: &mut [u64; PLACEMENT_ROOM],
-) -> bool {
-    let mut p = cases::places::start();
-    let mut turns = INPUT_ROOM;
-    while 0 < turns {
-        if cases::places::at_end(input, p) {
-            return true;
-        }
-        match requests::next_request(input, p, text, types, rows, due, best) {
-            Step::Next(q) => p = q,
-            Step::Bad => return false,
-        }
-        turns -= 1;
-    }
-    false
-}
-
-// The first n bytes are what was read. A full buffer may hold a part of the cases only.
-fn told(input: &[u8], n: usize) -> bool {
-    if input.len() <= n {
-        return false;
-    }
-    let mut text = [0u8; 40_960];
-    let mut types = [0u32; 100];
-    let mut rows = [0u32; 3000];
-    let mut due = [0i64; 1000];
+// The requests in turn, up to the end of the input or to one that is malformed.
+fn run(input: &[u8]) -> Option<()> {
+    let mut setup = Setup::new();
     let mut best = [0u64; PLACEMENT_ROOM];
-    run(
-        &input[..n],
-        &mut text,
-        &mut types,
-        &mut rows,
-        &mut due,
-        &mut best,
-    )
+    let mut name = &input[..0];
+    let mut rest = input;
+    // Each request says how far it reaches.
+    while !rest.is_empty() {
+        let (request, after) = requests::next_request(rest)?;
+        rest = after;
+        match request {
+            Request::Case(named) => name = named,
+            Request::Set(setting) => rest = setup.set(setting, after)?,
+            Request::Ask(question, line) => {
+                writing::bytes(name);
+                say!(" ");
+                writing::bytes(line);
+                say!(":");
+                asking::ask(question, &mut setup, &mut best);
+                say!("\n");
+            }
+        }
+    }
+    Some(())
 }
 
 fn main() {
     let mut input = [0u8; INPUT_ROOM];
     let n = io::read_full(0, &mut input);
-    if !told(&input, n) {
-        saying::say(b"bad case\n");
+    // A full buffer may hold a part of the cases only.
+    if n == INPUT_ROOM || run(&input[..n]).is_none() {
+        say!("bad case\n");
     }
 }

@@ -3,51 +3,43 @@
 #![tactic(auto)]
 
 ghost use Rattle.std.specs.Prelude.{◌+◌, ◌-◌, ◌<◌, get_or};
-ghost use Rattle.laws.specs.Room.{HasRoom};
-ghost use Rattle.laws.specs.Walk.{under, seen_at};
-ghost use Rattle.laws.specs.Tabled.{rows_from, repeaters_from};
 ghost use Rattle.columns.specs.Run.{run};
 ghost use Rattle.columns.specs.Made.{Room};
-ghost use Rattle.walks.specs.Made.{Given, Made};
+ghost use Rattle.walks.specs.Made.{GivenIn, RoomIn, SeenIn, UnderIn};
+
+use rooms::links::LINKS_ROOM;
+use rules::Net;
 
 mod steps;
 
 // The list at a row, made at a place: from the deepest row up, each row's list is put under the row above it, and that row's site on it.
 #[cycle(below_seen)]
 pub fn seen(
-    rows: &[u32],
-    due: &[i64],
-    types: &[u32],
-    count: usize,
-    links: &[u16],
+    net: &Net<'_>,
+    links: &[u16; LINKS_ROOM],
     loads: &mut [u32],
     times: &mut [i64],
     words: &mut [u64],
-    n: usize,
     row: usize,
     at: usize,
 ) -> usize
-    requires given { Given rows.now due.now types.now count n links.now }
-    requires row_lt_n { row < n }
+    requires given { GivenIn net.now links.now }
+    requires row_lt_n { row < net.now.row_count }
     requires room { Room loads.old times.old words.old }
-    requires has_room { HasRoom count at (n - (row + 1)) (seen_at (rows_from rows.now due.now 0 n) row) }
-    ensures { Made (repeaters_from types.now 0 count) (seen_at (rows_from rows.now due.now 0 n) row) (run loads.old times.old words.old) (run loads.new times.new words.new) at result }
+    requires has_room { RoomIn net.now row at }
+    ensures { SeenIn net.now row (run loads.old times.old words.old) (run loads.new times.new words.new) at result }
 {
-    let mut r = steps::deepest(links, n, row);
-    steps::start(rows, due, loads, times, words, r, at);
+    let mut r = steps::deepest(links, net.row_count, row);
+    steps::start(net, loads, times, words, r, at);
     let mut m = 1;
+    // Up the links from the deepest row: no range is walked.
     loop {
-        let len = steps::put_site(
-            rows, due, types, count, links, loads, times, words, r, at, m,
-        );
+        let len = steps::put_site(net, links, loads, times, words, r, at, m);
         if r == row {
             return len;
         }
-        let x = rows::row_at(rows, due, r);
-        r = x.parent as usize;
-        m = below(
-            rows, due, types, count, links, loads, times, words, n, r, at, len,
-        );
+        r = rows::row_at(net, r).parent as usize;
+        m = below(net, links, loads, times, words, r, at, len);
     }
 }
 
@@ -55,64 +47,35 @@ pub fn seen(
 // that the links lead to under p, its own list after what is made already. A sink's list is made here, so that only other rows recurse.
 #[cycle(below_seen)]
 pub fn below(
-    rows: &[u32],
-    due: &[i64],
-    types: &[u32],
-    count: usize,
-    links: &[u16],
+    net: &Net<'_>,
+    links: &[u16; LINKS_ROOM],
     loads: &mut [u32],
     times: &mut [i64],
     words: &mut [u64],
-    n: usize,
     p: usize,
     at: usize,
     len: usize,
 ) -> usize
-    requires given { Given rows.now due.now types.now count n links.now }
-    requires p_lt_n { (p < n) × (get_or links.now p 0 < n) }
+    requires given { GivenIn net.now links.now }
+    requires p_lt_n { (p < net.now.row_count) × (get_or links.now p 0 < net.now.row_count) }
     requires room { Room loads.old times.old words.old }
-    requires has_room { HasRoom count at (n - (p + 1)) (seen_at (rows_from rows.now due.now 0 n) p) }
-    requires made { Made (repeaters_from types.now 0 count) (seen_at (rows_from rows.now due.now 0 n) (get_or links.now p 0)) (run loads.old times.old words.old) (run loads.old times.old words.old) at len }
-    ensures { Made (repeaters_from types.now 0 count) (under (rows_from rows.now due.now 0 n) p (p + 1)) (run loads.old times.old words.old) (run loads.new times.new words.new) at result }
+    requires has_room { RoomIn net.now p at }
+    requires made { SeenIn net.now (get_or links.now p 0) (run loads.old times.old words.old) (run loads.old times.old words.old) at len }
+    ensures { UnderIn net.now p (run loads.old times.old words.old) (run loads.new times.new words.new) at result }
 {
     let mut c = rows::first_below(links, p);
-    let mut m = steps::wire_row(rows, due, loads, times, words, c, at, len);
+    let mut m = steps::wire_row(net, loads, times, words, c, at, len);
+    // Along the links: no range is walked.
     loop {
         c = rows::next_beside(links, c);
-        if c == n {
+        if c == net.row_count {
             return m;
         }
-        let d = rows::first_below(links, c);
-        if d == n {
-            let own = steps::pin_list(
-                rows,
-                due,
-                types,
-                count,
-                links,
-                loads,
-                times,
-                words,
-                n,
-                c,
-                at + m,
-            );
-            m = steps::hang(rows, due, loads, times, words, c, at, m, own);
+        let own = if rows::first_below(links, c) == net.row_count {
+            steps::pin_list(net, links, loads, times, words, c, at + m)
         } else {
-            let own = seen(
-                rows,
-                due,
-                types,
-                count,
-                links,
-                loads,
-                times,
-                words,
-                n,
-                c,
-                at + m,
-            );
-            m = steps::hang(rows, due, loads, times, words, c, at, m, own);
-        }
+            seen(net, links, loads, times, words, c, at + m)
+        };
+        m = steps::hang(net, loads, times, words, c, at, m, own);
     }
 }

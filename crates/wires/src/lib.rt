@@ -29,14 +29,11 @@ pub fn wire_list(
     requires all { All Fit (map (behind (wire_of r.0 c.0)) (part at (at + n) (run loads.old times.old words.old))) }
     ensures { Gives (run loads.old times.old words.old) (run loads.new times.new words.new) at result (wire_step (wire_of r.0 c.0) (part at (at + n) (run loads.old times.old words.old))) }
 {
-    let end = at + n;
     cells::wired_at(loads, times, words, at, at, r, c);
     let mut last = at;
-    let mut i = at + 1;
-    while i < end {
+    for i in at + 1..at + n {
         cells::wired_at(loads, times, words, i, last + 1, r, c);
         last += cells::later_at(times, last, last + 1);
-        i += 1;
     }
     last + 1 - at
 }

@@ -1,18 +1,9 @@
 -- A text that was read or refused, and what is given of it: the promise of the entry, said of the text. Assumes nothing.
-use Rattle.std.specs.Prelude.{◌≡◌, refl, Bool, true, false, ◌||◌, List, ℕ, ltb, length}
+use Rattle.std.specs.Prelude.{◌≡◌, refl, Bool, true, false, ◌||◌, List, ℕ, ltb, length, Result, Ok, Err}
 use Rattle.std.proofs.Common.{sym, ap, subst, ◌∙◌}
 use Rattle.std.proofs.Math.Option.{Option, none, some, or_else}
 use Rattle.rules.specs.declared.Refusal.{Refusal}
 use Rattle.rules.specs.declared.Refusal.TheVariants.{Short}
-use Rattle.rules.specs.declared.Reading.{Reading}
-use Rattle.rules.specs.declared.Reading.TheVariants.{Read}
-use Rattle.rules.specs.declared.Reading.TheVariants.{Refused as NotRead}
-use Rattle.rules.specs.declared.Slacking.{Slacking}
-use Rattle.rules.specs.declared.Slacking.TheVariants.{Refused as NoSlack}
-use Rattle.rules.specs.declared.Planning.{Planning}
-use Rattle.rules.specs.declared.Planning.TheVariants.{Refused as NotPlanned}
-use Rattle.rules.specs.declared.Listing.{Listing}
-use Rattle.rules.specs.declared.Listing.TheVariants.{Refused as NotListed}
 use Rattle.rules.specs.Quantities.{list_room}
 use Rattle.rules.specs.Entries.{Entry}
 use Rattle.rules.specs.Tables.{Tables, counts_of, short_tables, counts_in, filled, table_entries}
@@ -24,38 +15,40 @@ use Rattle.laws.specs.Checked.{numbered}
 use Rattle.laws.specs.Picked.{Picks}
 use Rattle.laws.proofs.Picked.{numbered-picks}
 use Rattle.laws.specs.Reading.{ReadAs, not_read, was_read, read_as, tables-as-text}
+use Rattle.rules.specs.declared.Counted.{Counted}
+use Rattle.rules.specs.declared.Timed.{Timed}
 use Rattle.zombrict.specs.Texts.{no_tables, no_work, SlackRead, PlanRead, PickRead, ListRead, LoadsRead}
 
 -- ---- what was read, as the entry is handed it
-read_is : {b : Reading} {types rows m n : ℕ} → b ≡ Read types rows → m ≡ types → n ≡ rows → b ≡ Read m n
-read_is {b} {types} {rows} {m} {n} e p q = e ∙ ap (λ (k : ℕ). Read k rows) (sym p) ∙ ap (λ (k : ℕ). Read m k) (sym q)
+read_is : {b : Result Counted Refusal} {types rows m n : ℕ} → b ≡ Ok (record { types = types; rows = rows }) → m ≡ types → n ≡ rows → b ≡ Ok (record { types = m; rows = n })
+read_is {b} {types} {rows} {m} {n} e p q = e ∙ ap (λ (k : ℕ). Ok (record { types = k; rows = rows })) (sym p) ∙ ap (λ (k : ℕ). Ok (record { types = m; rows = k })) (sym q)
 
-pub slack-refused : {b : Reading} {r : Refusal} (t : Tables) (words : List ℕ) → b ≡ NotRead r → SlackRead b t words (NoSlack r)
+pub slack-refused : {b : Result Counted Refusal} {r : Refusal} (t : Tables) (words : List ℕ) → b ≡ Err r → SlackRead b t words (Err r)
 unfolding slack_figures
-slack-refused {b} {r} t words e = subst (λ (x : Reading). SlackRead x t words (NoSlack r)) (sym e) refl
+slack-refused {b} {r} t words e = subst (λ (x : Result Counted Refusal). SlackRead x t words (Err r)) (sym e) refl
 
-pub slack-read : {b : Reading} {types rows m n : ℕ} (t : Tables) (words : List ℕ) (a : Slacking) → b ≡ Read types rows → m ≡ types → n ≡ rows → SlackPromise (tabled t (counts_of m n)) words a → SlackRead b t words a
-slack-read t words a e p q h = subst (λ (x : Reading). SlackRead x t words a) (sym (read_is e p q)) h
+pub slack-read : {b : Result Counted Refusal} {types rows m n : ℕ} (t : Tables) (words : List ℕ) (a : Result Timed Refusal) → b ≡ Ok (record { types = types; rows = rows }) → m ≡ types → n ≡ rows → SlackPromise (tabled t (counts_of m n)) words a → SlackRead b t words a
+slack-read t words a e p q h = subst (λ (x : Result Counted Refusal). SlackRead x t words a) (sym (read_is e p q)) h
 
-pub plan-refused : {b : Reading} {r : Refusal} (t : Tables) (before : List ℕ) → b ≡ NotRead r → PlanRead b t before (NotPlanned r) before
+pub plan-refused : {b : Result Counted Refusal} {r : Refusal} (t : Tables) (before : List ℕ) → b ≡ Err r → PlanRead b t before (Err r) before
 unfolding plan_figures
-plan-refused {b} {r} t before e = subst (λ (x : Reading). PlanRead x t before (NotPlanned r) before) (sym e) (refl, refl)
+plan-refused {b} {r} t before e = subst (λ (x : Result Counted Refusal). PlanRead x t before (Err r) before) (sym e) (refl, refl)
 
-pub plan-read : {b : Reading} {types rows m n : ℕ} (t : Tables) (before : List ℕ) (a : Planning) (after : List ℕ) (work : Columns) → b ≡ Read types rows → m ≡ types → n ≡ rows → PlanPromise columns (tabled t (counts_of m n)) (plan_areas before no_work) a (plan_areas after work) → PlanRead b t before a after
-plan-read t before a after work e p q h = subst (λ (x : Reading). PlanRead x t before a after) (sym (read_is e p q)) (work, h)
+pub plan-read : {b : Result Counted Refusal} {types rows m n : ℕ} (t : Tables) (before : List ℕ) (a : Result Timed Refusal) (after : List ℕ) (work : Columns) → b ≡ Ok (record { types = types; rows = rows }) → m ≡ types → n ≡ rows → PlanPromise columns (tabled t (counts_of m n)) (plan_areas before no_work) a (plan_areas after work) → PlanRead b t before a after
+plan-read t before a after work e p q h = subst (λ (x : Result Counted Refusal). PlanRead x t before a after) (sym (read_is e p q)) (work, h)
 
-pub pick-refused : {b : Reading} {r : Refusal} (t : Tables) (before after : List ℕ) (a : Planning) → b ≡ NotRead r → PickRead b t before after a
-pick-refused {b} {r} t before after a e = subst (λ (x : Reading). PickRead x t before after a) (sym e) tt
+pub pick-refused : {b : Result Counted Refusal} {r : Refusal} (t : Tables) (before after : List ℕ) (a : Result Timed Refusal) → b ≡ Err r → PickRead b t before after a
+pick-refused {b} {r} t before after a e = subst (λ (x : Result Counted Refusal). PickRead x t before after a) (sym e) tt
 
-pub pick-read : {b : Reading} {types rows m n : ℕ} (t : Tables) (before after : List ℕ) (a : Planning) → b ≡ Read types rows → m ≡ types → n ≡ rows → Picks (table_entries t (counts_of m n)) before after (plan_figures a).number → PickRead b t before after a
-pick-read t before after a e p q h = subst (λ (x : Reading). PickRead x t before after a) (sym (read_is e p q)) h
+pub pick-read : {b : Result Counted Refusal} {types rows m n : ℕ} (t : Tables) (before after : List ℕ) (a : Result Timed Refusal) → b ≡ Ok (record { types = types; rows = rows }) → m ≡ types → n ≡ rows → Picks (table_entries t (counts_of m n)) before after (plan_figures a).number → PickRead b t before after a
+pick-read t before after a e p q h = subst (λ (x : Result Counted Refusal). PickRead x t before after a) (sym (read_is e p q)) h
 
-pub list-refused : {b : Reading} {r : Refusal} (t : Tables) (row : ℕ) (before : Lent) → b ≡ NotRead r → ListRead b t row before (NotListed r) before
+pub list-refused : {b : Result Counted Refusal} {r : Refusal} (t : Tables) (row : ℕ) (before : Lent) → b ≡ Err r → ListRead b t row before (Err r) before
 unfolding list_figures
-list-refused {b} {r} t row before e = subst (λ (x : Reading). ListRead x t row before (NotListed r) before) (sym e) (refl, refl)
+list-refused {b} {r} t row before e = subst (λ (x : Result Counted Refusal). ListRead x t row before (Err r) before) (sym e) (refl, refl)
 
-pub list_read : {b : Reading} {types rows m n : ℕ} (t : Tables) (row : ℕ) (before : Lent) (a : Listing) (after : Lent) (work : Columns) → b ≡ Read types rows → m ≡ types → n ≡ rows → ListPromise columns (tabled t (counts_of m n)) row (list_areas before no_work) a (list_areas after work) → ListRead b t row before a after
-list_read t row before a after work e p q h = subst (λ (x : Reading). ListRead x t row before a after) (sym (read_is e p q)) (work, h)
+pub list_read : {b : Result Counted Refusal} {types rows m n : ℕ} (t : Tables) (row : ℕ) (before : Lent) (a : Result ℕ Refusal) (after : Lent) (work : Columns) → b ≡ Ok (record { types = types; rows = rows }) → m ≡ types → n ≡ rows → ListPromise columns (tabled t (counts_of m n)) row (list_areas before no_work) a (list_areas after work) → ListRead b t row before a after
+list_read t row before a after work e p q h = subst (λ (x : Result Counted Refusal). ListRead x t row before a after) (sym (read_is e p q)) (work, h)
 
 -- ---- a work area of the call's own
 no-work : columns.short no_work ≡ false
@@ -66,7 +59,7 @@ own-work : (b : Bool) → b || columns.short no_work ≡ b || unlent.short tt
 unfolding unlent
 own-work b = ap (λ s. b || s) no-work
 
-plan-unlent : (net : Handed) (before after : List ℕ) (a : Planning) (work : Columns) → PlanPromise columns net (plan_areas before no_work) a (plan_areas after work) → PlanPromise unlent net (plan_areas before tt) a (plan_areas after tt)
+plan-unlent : (net : Handed) (before after : List ℕ) (a : Result Timed Refusal) (work : Columns) → PlanPromise columns net (plan_areas before no_work) a (plan_areas after work) → PlanPromise unlent net (plan_areas before tt) a (plan_areas after tt)
 unfolding PlanPromise unlent
 plan-unlent net before after a work p = go (net_refusal (short_placement before || false) net) (rw (own-work (short_placement before)) at p)
   where
@@ -74,7 +67,7 @@ plan-unlent net before after a work p = go (net_refusal (short_placement before 
     go (some r) (f, e) = (f, ap (λ (m : PlanAreas Columns). plan_areas {W = Unit {0}} m.placement tt) e)
     go none (v, f, q, w) = (v, f, q, refl)
 
-list-unlent : (net : Handed) (row : ℕ) (before after : Lent) (a : Listing) (work : Columns) → ListPromise columns net row (list_areas before no_work) a (list_areas after work) → ListPromise unlent net row (list_areas before tt) a (list_areas after tt)
+list-unlent : (net : Handed) (row : ℕ) (before after : Lent) (a : Result ℕ Refusal) (work : Columns) → ListPromise columns net row (list_areas before no_work) a (list_areas after work) → ListPromise unlent net row (list_areas before tt) a (list_areas after tt)
 unfolding ListPromise unlent
 list-unlent net row before after a work p = go (list_refusal (short_lent before || false) net row) (rw (own-work (short_lent before)) at p)
   where
@@ -100,62 +93,62 @@ short-text : (text : List ℕ) (short : Bool) → short ≡ true → net_refusal
 unfolding net_refusal or_else
 short-text text short e = rw e
 
-pub slack-short : (text words : List ℕ) → short_placement words ≡ true → SlackPromise (texted text) words (NoSlack Short)
+pub slack-short : (text words : List ℕ) → short_placement words ≡ true → SlackPromise (texted text) words (Err Short)
 unfolding SlackPromise slack_refusal slack_figures or_else
 slack-short text words e = rw (short-text text (short_placement words) e) refl
 
-pub plan-short : (text before : List ℕ) → short_placement before ≡ true → PlanPromise unlent (texted text) (plan_areas before tt) (NotPlanned Short) (plan_areas before tt)
+pub plan-short : (text before : List ℕ) → short_placement before ≡ true → PlanPromise unlent (texted text) (plan_areas before tt) (Err Short) (plan_areas before tt)
 unfolding PlanPromise plan_figures unlent
 plan-short text before e = rw (short-text text (short_placement before || false) (rw e)) (refl, refl)
 
-pub list-short : (text : List ℕ) (row : ℕ) (before : Lent) → short_lent before ≡ true → ListPromise unlent (texted text) row (list_areas before tt) (NotListed Short) (list_areas before tt)
+pub list-short : (text : List ℕ) (row : ℕ) (before : Lent) → short_lent before ≡ true → ListPromise unlent (texted text) row (list_areas before tt) (Err Short) (list_areas before tt)
 unfolding ListPromise list_refusal list_figures unlent or_else
 list-short text row before e = rw (short-text text (short_lent before || false) (rw e)) (refl, refl)
 
-pub slack-on-text : (text words : List ℕ) (b : Reading) (t : Tables) (a : Slacking) → short_placement words ≡ false → ReadPromise text no_tables b t → SlackRead b t words a → SlackPromise (texted text) words a
+pub slack-on-text : (text words : List ℕ) (b : Result Counted Refusal) (t : Tables) (a : Result Timed Refusal) → short_placement words ≡ false → ReadPromise text no_tables b t → SlackRead b t words a → SlackPromise (texted text) words a
 unfolding SlackPromise slack_refusal or_else
 slack-on-text text words b t a s p = go b (read_as text no_tables b t p)
   where
     refused-text : (r : Refusal) → net_refusal (short_tables no_tables) (texted text) ≡ some r → slack_figures a ≡ refused no_timing r → SlackPromise (texted text) words a
     refused-text r e h = rw (stays-refused text (short_placement words) r s e) h
 
-    go : (b : Reading) → ReadAs text no_tables t b → SlackRead b t words a → SlackPromise (texted text) words a
+    go : (b : Result Counted Refusal) → ReadAs text no_tables t b → SlackRead b t words a → SlackPromise (texted text) words a
     go _ (not_read r e m) h = refused-text r e h
     go _ (was_read n e c m) h = subst (λ (net : Handed). SlackPromise net words a) (tables-as-text text t n (stays-taken text e) c m) h
 
-pub plan-on-text : (text before after : List ℕ) (b : Reading) (t : Tables) (a : Planning) → short_placement before ≡ false → ReadPromise text no_tables b t → PlanRead b t before a after → PlanPromise unlent (texted text) (plan_areas before tt) a (plan_areas after tt)
+pub plan-on-text : (text before after : List ℕ) (b : Result Counted Refusal) (t : Tables) (a : Result Timed Refusal) → short_placement before ≡ false → ReadPromise text no_tables b t → PlanRead b t before a after → PlanPromise unlent (texted text) (plan_areas before tt) a (plan_areas after tt)
 unfolding PlanPromise unlent
 plan-on-text text before after b t a s p = go b (read_as text no_tables b t p)
   where
     refused-text : (r : Refusal) → net_refusal (short_tables no_tables) (texted text) ≡ some r → (plan_figures a ≡ refused no_timing r) × (after ≡ before) → PlanPromise unlent (texted text) (plan_areas before tt) a (plan_areas after tt)
     refused-text r e (f, m) = rw (stays-refused text (short_placement before || false) r (rw s) e) (f, ap (λ (l : List ℕ). plan_areas l tt) m)
 
-    go : (b : Reading) → ReadAs text no_tables t b → PlanRead b t before a after → PlanPromise unlent (texted text) (plan_areas before tt) a (plan_areas after tt)
+    go : (b : Result Counted Refusal) → ReadAs text no_tables t b → PlanRead b t before a after → PlanPromise unlent (texted text) (plan_areas before tt) a (plan_areas after tt)
     go _ (not_read r e m) h = refused-text r e h
     go _ (was_read n e c m) (work, h) = subst (λ (net : Handed). PlanPromise unlent net (plan_areas before tt) a (plan_areas after tt)) (tables-as-text text t n (stays-taken text e) c m) (plan-unlent (tabled t n) before after a work h)
 
 -- and the placement that it returns
-pub pick-on-text : (text before after : List ℕ) (b : Reading) (t : Tables) (a : Planning) → ReadPromise text no_tables b t → PlanRead b t before a after → PickRead b t before after a → Picks (text_entries text) before after (plan_figures a).number
+pub pick-on-text : (text before after : List ℕ) (b : Result Counted Refusal) (t : Tables) (a : Result Timed Refusal) → ReadPromise text no_tables b t → PlanRead b t before a after → PickRead b t before after a → Picks (text_entries text) before after (plan_figures a).number
 unfolding refused
 pick-on-text text before after b t a p = go b (read_as text no_tables b t p)
   where
-    go : (b : Reading) → ReadAs text no_tables t b → PlanRead b t before a after → PickRead b t before after a → Picks (text_entries text) before after (plan_figures a).number
+    go : (b : Result Counted Refusal) → ReadAs text no_tables t b → PlanRead b t before a after → PickRead b t before after a → Picks (text_entries text) before after (plan_figures a).number
     go _ (not_read r e m) h k = numbered-picks (text_entries text) before after (rw h.0 (numbered r))
     go _ (was_read n e c m) h k = subst (λ (es : List Entry). Picks es before after (plan_figures a).number) m.entries k
 
-pub list-on-text : (text : List ℕ) (row : ℕ) (before after : Lent) (b : Reading) (t : Tables) (a : Listing) → short_lent before ≡ false → ReadPromise text no_tables b t → ListRead b t row before a after → ListPromise unlent (texted text) row (list_areas before tt) a (list_areas after tt)
+pub list-on-text : (text : List ℕ) (row : ℕ) (before after : Lent) (b : Result Counted Refusal) (t : Tables) (a : Result ℕ Refusal) → short_lent before ≡ false → ReadPromise text no_tables b t → ListRead b t row before a after → ListPromise unlent (texted text) row (list_areas before tt) a (list_areas after tt)
 unfolding ListPromise list_refusal unlent or_else
 list-on-text text row before after b t a s p = go b (read_as text no_tables b t p)
   where
     refused-text : (r : Refusal) → net_refusal (short_tables no_tables) (texted text) ≡ some r → (list_figures a ≡ refused 0 r) × (after ≡ before) → ListPromise unlent (texted text) row (list_areas before tt) a (list_areas after tt)
     refused-text r e (f, m) = rw (stays-refused text (short_lent before || false) r (rw s) e) (f, ap (λ (l : Lent). list_areas l tt) m)
 
-    go : (b : Reading) → ReadAs text no_tables t b → ListRead b t row before a after → ListPromise unlent (texted text) row (list_areas before tt) a (list_areas after tt)
+    go : (b : Result Counted Refusal) → ReadAs text no_tables t b → ListRead b t row before a after → ListPromise unlent (texted text) row (list_areas before tt) a (list_areas after tt)
     go _ (not_read r e m) h = refused-text r e h
     go _ (was_read n e c m) (work, h) = subst (λ (net : Handed). ListPromise unlent net row (list_areas before tt) a (list_areas after tt)) (tables-as-text text t n (stays-taken text e) c m) (list-unlent (tabled t n) row before after a work h)
 
 -- reading into tables that nobody sees answers the counts
-pub count-on-text : (text : List ℕ) (a : Reading) (t : Tables) → ReadPromise text no_tables a t → CountPromise (texted text) a
+pub count-on-text : (text : List ℕ) (a : Result Counted Refusal) (t : Tables) → ReadPromise text no_tables a t → CountPromise (texted text) a
 unfolding ReadPromise CountPromise
 count-on-text text a t p = subst (λ (b : Bool). Settled (net_refusal b (texted text)) (λ r. read_figures a ≡ refused no_counts r) (read_figures a ≡ done (counts_in (text_entries text)))) no-tables (go (net_refusal (short_tables no_tables) (texted text)) p)
   where
@@ -164,17 +157,17 @@ count-on-text text a t p = subst (λ (b : Bool). Settled (net_refusal b (texted 
     go (some r) (f, m) = f
 
 -- ---- the loads of a list alone
-pub loads-refused : {b : Reading} {r : Refusal} (t : Tables) (row : ℕ) (before : List ℕ) → b ≡ NotRead r → LoadsRead b t row before (NotListed r) before
+pub loads-refused : {b : Result Counted Refusal} {r : Refusal} (t : Tables) (row : ℕ) (before : List ℕ) → b ≡ Err r → LoadsRead b t row before (Err r) before
 loads-refused t row before e = (unseen_times, list-refused t row (lent_of before unseen_times) e)
 
-pub loads-read : {b : Reading} {types rows m n : ℕ} (t : Tables) (row : ℕ) (before : List ℕ) (a : Listing) (after : List ℕ) (work : Columns) → b ≡ Read types rows → m ≡ types → n ≡ rows → LoadsPromise columns (tabled t (counts_of m n)) row (loads_areas before no_work) a (loads_areas after work) → LoadsRead b t row before a after
+pub loads-read : {b : Result Counted Refusal} {types rows m n : ℕ} (t : Tables) (row : ℕ) (before : List ℕ) (a : Result ℕ Refusal) (after : List ℕ) (work : Columns) → b ≡ Ok (record { types = types; rows = rows }) → m ≡ types → n ≡ rows → LoadsPromise columns (tabled t (counts_of m n)) row (loads_areas before no_work) a (loads_areas after work) → LoadsRead b t row before a after
 unfolding LoadsPromise
 loads-read t row before a after work e p q (times, h) = (times, list_read t row (lent_of before unseen_times) a (lent_of after times) work e p q h)
 
-pub loads-short : (text : List ℕ) (row : ℕ) (before : List ℕ) → ltb (length before) list_room ≡ true → LoadsPromise unlent (texted text) row (loads_areas before tt) (NotListed Short) (loads_areas before tt)
+pub loads-short : (text : List ℕ) (row : ℕ) (before : List ℕ) → ltb (length before) list_room ≡ true → LoadsPromise unlent (texted text) row (loads_areas before tt) (Err Short) (loads_areas before tt)
 unfolding LoadsPromise short_lent
 loads-short text row before e = (unseen_times, list-short text row (lent_of before unseen_times) (rw e refl))
 
-pub loads-on-text : (text : List ℕ) (row : ℕ) (before after : List ℕ) (b : Reading) (t : Tables) (a : Listing) → ltb (length before) list_room ≡ false → ReadPromise text no_tables b t → LoadsRead b t row before a after → LoadsPromise unlent (texted text) row (loads_areas before tt) a (loads_areas after tt)
+pub loads-on-text : (text : List ℕ) (row : ℕ) (before after : List ℕ) (b : Result Counted Refusal) (t : Tables) (a : Result ℕ Refusal) → ltb (length before) list_room ≡ false → ReadPromise text no_tables b t → LoadsRead b t row before a after → LoadsPromise unlent (texted text) row (loads_areas before tt) a (loads_areas after tt)
 unfolding LoadsPromise short_lent
 loads-on-text text row before after b t a s p (times, h) = (times, list-on-text text row (lent_of before unseen_times) (lent_of after times) b t a (rw s refl) p h)

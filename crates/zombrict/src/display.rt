@@ -5,8 +5,8 @@ ghost use Rattle.rules.specs.Promises.{tabled, texted};
 ghost use Rattle.rules.specs.Calls.{lending, LoadsCall};
 ghost use Rattle.zombrict.specs.Texts.{LoadsRead};
 
-use rooms::{ROWS_AREA, ROWS_ROOM, TYPES_AREA, WORDS_AREA, WORK_ROOM, wide};
-use rules::{Listing, Reading, Refusal};
+use rooms::{ROWS_AREA, ROWS_ROOM, TYPES_AREA, WORDS_AREA, WORK_ROOM};
+use rules::{Counted, Net, Refusal};
 
 // The loads of the unbeaten pairs at a row. The value answered is how many there are.
 #[unsafe(no_mangle)]
@@ -28,42 +28,39 @@ pub extern "C" fn zombrict_loads(
     if answer.len() < answers::room() {
         return answers::short();
     }
-    let a = plan::loads_at(
-        types, rows, due, type_count, row_count, row, list_loads, loads, times, words,
-    );
-    answers::tell_listing(answer, a)
+    let net = Net {
+        types,
+        rows,
+        due,
+        type_count,
+        row_count,
+    };
+    let listed = plan::loads_at(&net, row, list_loads, loads, times, words);
+    answers::tell_listing(answer, listed)
 }
 
 fn loads_read(
-    read: Reading,
+    read: Result<Counted, Refusal>,
     types: &[u32],
     rows: &[u32],
     due: &[i64],
     row: usize,
     list_loads: &mut [u32],
-) -> Listing
+) -> Result<u32, Refusal>
     ensures { LoadsRead read (tables_of types.now rows.now due.now) row list_loads.old result list_loads.new }
 {
-    match read {
-        Reading::Refused(r) => Listing::Refused(r),
-        Reading::Read { types: t, rows: n } => {
-            let mut loads = [0u32; WORK_ROOM];
-            let mut times = [0i64; WORK_ROOM];
-            let mut words = [0u64; WORDS_AREA];
-            plan::loads_at(
-                types,
-                rows,
-                due,
-                wide::count(t),
-                wide::count(n),
-                row,
-                list_loads,
-                &mut loads,
-                &mut times,
-                &mut words,
-            )
-        }
-    }
+    let n = read?;
+    let net = Net {
+        types,
+        rows,
+        due,
+        type_count: n.types as usize,
+        row_count: n.rows as usize,
+    };
+    let mut loads = [0u32; WORK_ROOM];
+    let mut times = [0i64; WORK_ROOM];
+    let mut words = [0u64; WORDS_AREA];
+    plan::loads_at(&net, row, list_loads, &mut loads, &mut times, &mut words)
 }
 
 // The same at a row of a net given as text. Tables and work area are the call's own and stand on the stack, as in `texts`.
@@ -86,6 +83,6 @@ pub extern "C" fn zombrict_loads_text(
     let mut rows = [0u32; ROWS_AREA];
     let mut due = [0i64; ROWS_ROOM];
     let read = net::read_net(text, &mut types, &mut rows, &mut due);
-    let a = loads_read(read, &types, &rows, &due, row, list_loads);
-    answers::tell_listing(answer, a)
+    let listed = loads_read(read, &types, &rows, &due, row, list_loads);
+    answers::tell_listing(answer, listed)
 }

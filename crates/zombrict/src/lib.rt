@@ -8,6 +8,8 @@ ghost use Rattle.rules.specs.Promises.{tabled};
 ghost use Rattle.rules.specs.Calls.{lending, ReadCall, CheckCall, SlackCall, PlanCall, ListCall};
 ghost use Rattle.laws.specs.Picked.{Picks};
 
+use rules::Net;
+
 mod display;
 mod texts;
 
@@ -25,8 +27,7 @@ pub extern "C" fn zombrict_read(
     if answer.len() < answers::room() {
         return answers::short();
     }
-    let a = net::read_net(text, types, rows, due);
-    answers::tell_reading(answer, a)
+    answers::tell_reading(answer, net::read_net(text, types, rows, due))
 }
 
 // A net given as tables, checked.
@@ -44,8 +45,14 @@ pub extern "C" fn zombrict_check(
     if answer.len() < answers::room() {
         return answers::short();
     }
-    let a = net::check_net(types, rows, due, type_count, row_count);
-    answers::tell_checking(answer, a)
+    let net = Net {
+        types,
+        rows,
+        due,
+        type_count,
+        row_count,
+    };
+    answers::tell_checking(answer, net::check_net(&net))
 }
 
 // The slack of a given placement. The values answered are the slack and the load on the driver.
@@ -64,8 +71,14 @@ pub extern "C" fn zombrict_slack(
     if answer.len() < answers::room() {
         return answers::short();
     }
-    let a = slack::slack_of(types, rows, due, type_count, row_count, placement);
-    answers::tell_slacking(answer, a)
+    let net = Net {
+        types,
+        rows,
+        due,
+        type_count,
+        row_count,
+    };
+    answers::tell_timing(answer, slack::slack_of(&net, placement))
 }
 
 // A placement of greatest slack. The values answered are the slack and the load on the driver.
@@ -88,10 +101,15 @@ pub extern "C" fn zombrict_plan(
     if answer.len() < answers::room() {
         return answers::short();
     }
-    let a = plan::plan_net(
-        types, rows, due, type_count, row_count, placement, loads, times, words,
-    );
-    answers::tell_planning(answer, a)
+    let net = Net {
+        types,
+        rows,
+        due,
+        type_count,
+        row_count,
+    };
+    let planned = plan::plan_net(&net, placement, loads, times, words);
+    answers::tell_timing(answer, planned)
 }
 
 // The list of unbeaten pairs at a row. The value answered is its length.
@@ -115,8 +133,13 @@ pub extern "C" fn zombrict_list(
     if answer.len() < answers::room() {
         return answers::short();
     }
-    let a = plan::list_at(
-        types, rows, due, type_count, row_count, row, list_loads, list_times, loads, times, words,
-    );
-    answers::tell_listing(answer, a)
+    let net = Net {
+        types,
+        rows,
+        due,
+        type_count,
+        row_count,
+    };
+    let listed = plan::list_at(&net, row, list_loads, list_times, loads, times, words);
+    answers::tell_listing(answer, listed)
 }

@@ -1,16 +1,20 @@
 -- `chosen::make` meets its contract. Assumes nothing.
-use Rattle.walks.specs.Code.{start-room}
 use Rattle.rows.specs.Given.{standing, earlier, areas, net-accepted}
-use Prim.Native.Nat.{ℕ}
-use lib.ListN.{length-replicate}
+use Rattle.walks.specs.Code.{start-room}
 use Rattle.chosen.proofs.make.Goals as goal
 
-pub link_back-requires : goal.link_back-requires
-link_back-requires c =
-    let p = c.requires.passed in
-    record { standing = standing p; earlier = earlier p; links_len = length-replicate {A = ℕ} 768 0 }
+pub link_back-requires-clause-standing : goal.link_back-requires-clause-standing
+link_back-requires-clause-standing c = standing c.requires.passed
 
-pub seen-requires : goal.seen-requires
-seen-requires c =
-    let a = c.args in
-    record { given = record { standing = standing c.requires.passed; types_long = (areas c.requires.passed).types_fit; accepted = net-accepted c.requires.passed; linked = c.link_back.ensures }; row_lt_n = c.requires.row_lt_n; room = c.requires.room; has_room = start-room a.rows.now a.due.now a.types.now a.count a.n (net-accepted c.requires.passed) a.row c.requires.row_lt_n }
+pub link_back-requires-clause-earlier : goal.link_back-requires-clause-earlier
+link_back-requires-clause-earlier c = earlier c.requires.passed
+
+pub seen-requires-clause-given : goal.seen-requires-clause-given
+seen-requires-clause-given c =
+    let p = c.requires.passed in
+    record { standing = standing p; types_long = (areas p).types_fit; accepted = net-accepted p; linked = c.link_back.ensures }
+
+pub seen-requires-clause-has_room : goal.seen-requires-clause-has_room
+seen-requires-clause-has_room c =
+    let net = c.args.net.now in
+    start-room net.rows.now net.due.now net.types.now net.type_count net.row_count (net-accepted c.requires.passed) c.args.row c.requires.row_lt_n

@@ -1,10 +1,7 @@
 -- `marks::mark_of` meets its contract. Assumes nothing.
-use mathlib.Core.Path.{sym, ◌∙◌}
-use native.Mathlib.Omega.{arith}
+use Rattle.std.proofs.Common.{sym, ◌∙◌, arith}
 use Rattle.marks.specs.Marks.{marks-in}
 use Rattle.marks.proofs.mark_of.Goals as goal
 
-pub returns : goal.returns
-returns c =
-    let a = c.args in
-    record { value = c.read.ensures.value ∙ sym (marks-in a.words.now a.j (omega arith)); size = c.read.ensures.size }
+pub returns-clause-value : goal.returns-clause-value
+returns-clause-value c = c.read.ensures.value ∙ sym (marks-in c.args.words.now c.args.j (omega arith))

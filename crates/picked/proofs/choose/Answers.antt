@@ -1,7 +1,7 @@
 -- `picked::choose` meets its contract. Assumes nothing.
-use Rattle.picked.specs.Picked.{chosen-inside, choice}
+use Rattle.std.proofs.Common.{arith}
 use Rattle.columns.specs.Choosing.{stand-columns}
-use native.Mathlib.Omega.{arith}
+use Rattle.picked.specs.Picked.{chosen-inside, choice}
 use Rattle.picked.proofs.choose.Goals as goal
 
 pub row_at-driver-requires : goal.row_at-driver-requires
@@ -17,18 +17,18 @@ put_placement-requires c =
     let p = c.requires in
     let a = c.args in
     let h = rw c.row_at-driver.ensures at c.best_at-best.ensures in
-    (omega (arith, chosen-inside a.rows.now a.due.now a.loads.now a.times.now a.words.now a.len a.placement.now p c.best_at-best.result.at c.best_at-best.result.value.0 h, p.room.words), p.four)
+    (omega (arith, chosen-inside a.net.now.rows.now a.net.now.due.now a.loads.now a.times.now a.words.now a.len a.placement.now p c.best_at-best.result.at c.best_at-best.result.value.0 h, p.room.words), p.four)
 
-pub bounds-loads-b : goal.bounds-loads-b
-bounds-loads-b c =
+pub bounds-loads-best : goal.bounds-loads-best
+bounds-loads-best c =
     let p = c.requires in
     let a = c.args in
     let h = rw c.row_at-driver.ensures at c.best_at-best.ensures in
-    omega (arith, chosen-inside a.rows.now a.due.now a.loads.now a.times.now a.words.now a.len a.placement.now p c.best_at-best.result.at c.best_at-best.result.value.0 h, p.room.loads)
+    omega (arith, chosen-inside a.net.now.rows.now a.net.now.due.now a.loads.now a.times.now a.words.now a.len a.placement.now p c.best_at-best.result.at c.best_at-best.result.value.0 h, p.room.loads)
 
 pub returns : goal.returns
 returns c =
     let p = c.requires in
     let a = c.args in
     let h = rw c.row_at-driver.ensures at c.best_at-best.ensures in
-    choice a.rows.now a.due.now a.loads.now a.times.now a.words.now a.len a.placement.now p c.best_at-best.result.at c.best_at-best.result.value.0 h c.put_placement.new.placement c.put_placement.ensures
+    choice a.net.now.rows.now a.net.now.due.now a.loads.now a.times.now a.words.now a.len a.placement.now p c.best_at-best.result.at c.best_at-best.result.value.0 h c.put_placement.new.placement c.put_placement.ensures

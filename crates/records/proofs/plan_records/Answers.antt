@@ -1,12 +1,40 @@
 -- `records::plan_records` meets its contract. Assumes nothing.
-use Rattle.records.specs.Planning.{verdict-plans, verdict-four, plan-told}
+use Rattle.std.proofs.Common.{refl, Ok, Err}
+use Rattle.std.proofs.lemmas.Result.{err_from_is_err_and}
+use Rattle.records.specs.Entries.{idle_pass}
+use Rattle.records.specs.Planning.{verdict-plans, plan-told, records-picks}
 use Rattle.records.proofs.plan_records.Goals as goal
 
-pub plan_if-e-requires : goal.plan_if-e-requires
-plan_if-e-requires c = verdict-plans _ _ _ _ _ _ _ _ c.judge-verdict.ensures
+-- ---- where something is refused nothing is stored
+pub returns-in_err-judge-clause-planned : goal.returns-in_err-judge-clause-planned
+returns-in_err-judge-clause-planned c =
+    let a = c.args in
+    let n = a.net.now in
+    let p = err_from_is_err_and c.from_residual.result c.from_residual.ensures.1 in
+    rw (p.1, p.2) (plan-told n.types.now n.rows.now n.due.now n.type_count n.row_count a.placement.now a.work.now (Err c.in_err-judge.field-0.0) c.in_err-judge.ensures a.work.now idle_pass refl a.placement.now (Err c.in_err-judge.field-0.0) (refl, refl))
 
-pub tell_if-requires : goal.tell_if-requires
-tell_if-requires c = verdict-four _ _ _ _ _ _ _ _ c.judge-verdict.ensures
+pub returns-in_err-judge-clause-picked : goal.returns-in_err-judge-clause-picked
+returns-in_err-judge-clause-picked c =
+    let a = c.args in
+    let n = a.net.now in
+    let p = err_from_is_err_and c.from_residual.result c.from_residual.ensures.1 in
+    rw (p.1, p.2) (records-picks n.types.now n.rows.now n.due.now n.type_count n.row_count a.placement.now a.placement.now a.work.now a.work.now (Err c.in_err-judge.field-0.0) idle_pass (Err c.in_err-judge.field-0.0) c.in_err-judge.ensures refl (refl, refl))
 
-pub returns : goal.returns
-returns c = plan-told _ _ _ _ _ _ _ _ c.judge-verdict.ensures c.plan_if-e.new.run c.plan_if-e.result c.plan_if-e.ensures c.tell_if.new.placement c.tell_if.result c.tell_if.ensures
+-- ---- where nothing is
+pub plan_in-best-requires : goal.plan_in-best-requires
+plan_in-best-requires c =
+    let a = c.args in
+    let n = a.net.now in
+    verdict-plans n.types.now n.rows.now n.due.now n.type_count n.row_count a.placement.now a.work.now (Ok tt) c.in_ok-judge.ensures
+
+pub returns-clause-planned : goal.returns-clause-planned
+returns-clause-planned c =
+    let a = c.args in
+    let n = a.net.now in
+    plan-told n.types.now n.rows.now n.due.now n.type_count n.row_count a.placement.now a.work.now (Ok tt) c.in_ok-judge.ensures c.plan_in-best.new.run c.plan_in-best.result c.plan_in-best.ensures c.tell.new.placement _ c.tell.ensures
+
+pub returns-clause-picked : goal.returns-clause-picked
+returns-clause-picked c =
+    let a = c.args in
+    let n = a.net.now in
+    records-picks n.types.now n.rows.now n.due.now n.type_count n.row_count a.placement.now c.tell.new.placement a.work.now c.plan_in-best.new.run (Ok tt) c.plan_in-best.result _ c.in_ok-judge.ensures c.plan_in-best.ensures c.tell.ensures

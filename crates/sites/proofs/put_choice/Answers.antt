@@ -1,11 +1,6 @@
 -- `sites::put_choice` meets its contract. Assumes nothing.
-use mathlib.Core.Path.{ap, ◌∙◌}
-use mathlib.Core.List.{List}
-use Prim.Native.Nat.{ℕ, ◌+◌}
-use native.Mathlib.Omega.{arith}
-use lib.IntN.{ℤ}
-use lib.Signed.{mag}
-use lib.ListN.{set}
+use Rattle.std.proofs.Common.{ap, ◌∙◌, ◌+◌, ℕ, List, ℤ, set, arith}
+use Rattle.std.specs.Int.Signed.{mag}
 use Rattle.rules.specs.Entries.{Repeater}
 use Rattle.laws.specs.Joining.{with_mark}
 use Rattle.units.proofs.Times.{own_of}

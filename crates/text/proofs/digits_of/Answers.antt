@@ -1,39 +1,20 @@
 -- `text::digits_of` meets its contract. The loop's invariant: the digits passed and those to come state the part's number, capped.
 -- Assumes nothing.
-use mathlib.Core.Path.{refl, sym, ◌∙◌}
-use native.Mathlib.Omega.{arith}
-use lib.ListN.{get_or}
-use Rattle.text.specs.Numbers.{digits-none, digits-past, digit-bounds, digits-done}
+use Rattle.std.proofs.Common.{sym, ◌∙◌, arith}
+use Rattle.text.specs.Numbers.{digits-none, digits-past, digits-done}
 use Rattle.text.proofs.digits_of.Goals as goal
 
-pub loop-i-init : goal.loop-i-init
-loop-i-init c = (omega arith, (omega arith, refl))
-
-pub bounds-part-i : goal.bounds-part-i
-bounds-part-i c = omega arith
-
-pub grow-n-requires : goal.grow-n-requires
-grow-n-requires c =
-    (omega arith, digit-bounds (get_or c.args.part.now c.loop-i.i 0) (sym c.is_digit.ensures ∙ c.if-is_digit.true))
-
-pub overflow_add-i : goal.overflow_add-i
-overflow_add-i c = omega arith
-
-pub returns-else-is_digit : goal.returns-else-is_digit
-returns-else-is_digit c =
+pub returns-then-not-is_ascii_digit : goal.returns-then-not-is_ascii_digit
+returns-then-not-is_ascii_digit c =
     let a = c.args in
-    sym (digits-none c.loop-i.n a.next a.part.now c.loop-i.i (omega arith) (sym c.is_digit.ensures ∙ c.if-is_digit.false)) ∙ c.loop-i.invariant.1.1
+    sym (digits-none c.loop-b.n a.next a.part.now c.loop-b.b-index (omega arith) (sym c.is_ascii_digit.ensures.value ∙ c.if-not-is_ascii_digit.true)) ∙ c.loop-b.invariant.1
 
-pub loop-i-smaller : goal.loop-i-smaller
-loop-i-smaller c = omega arith
-
-pub loop-i-preserved : goal.loop-i-preserved
-loop-i-preserved c =
+pub loop-b-preserved : goal.loop-b-preserved
+loop-b-preserved c =
     let a = c.args in
-    let e = sym c.is_digit.ensures ∙ c.if-is_digit.true in
-    (omega arith, (omega arith, rw c.grow-n.ensures (sym (digits-past c.loop-i.n a.next a.part.now c.loop-i.i (omega arith) e) ∙ c.loop-i.invariant.1.1)))
+    (omega arith, rw c.grow-n.ensures (sym (digits-past c.loop-b.n a.next a.part.now c.loop-b.b-index (omega arith) (sym c.is_ascii_digit.ensures.value ∙ c.if-not-is_ascii_digit.false)) ∙ c.loop-b.invariant.1))
 
 pub returns : goal.returns
 returns c =
     let a = c.args in
-    sym (digits-done c.loop-i.n a.next a.part.now c.loop-i.i (omega arith) (omega arith)) ∙ c.loop-i.invariant.1.1
+    sym (digits-done c.loop-b.n a.next a.part.now c.loop-b.b-index (omega arith) (omega arith)) ∙ c.loop-b.invariant.1

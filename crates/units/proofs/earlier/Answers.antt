@@ -1,17 +1,7 @@
--- `units::earlier` meets its contract. Assumes nothing.
-use mathlib.Core.Path.{sym, ◌∙◌}
-use borrow.Author.Rules.{rules}
-use Rattle.units.proofs.Times.{minℤ-later, minℤ-no-later}
+-- `units::earlier` meets its contract: the library's lesser of two numbers is the lesser of two times. Assumes nothing.
+use Rattle.std.proofs.Common.{rules}
+use Rattle.units.proofs.Times.{min-is-minℤ}
 use Rattle.units.proofs.earlier.Goals as goal
 
-pub returns-then-is_later : goal.returns-then-is_later
-returns-then-is_later c =
-    let a = c.args.a.0 in
-    let b = c.args.b.0 in
-    record { value = sym (minℤ-later a b (sym c.is_later.ensures ∙ c.if-is_later.true)); size = search rules }
-
-pub returns-else-is_later : goal.returns-else-is_later
-returns-else-is_later c =
-    let a = c.args.a.0 in
-    let b = c.args.b.0 in
-    record { value = sym (minℤ-no-later a b (sym c.is_later.ensures ∙ c.if-is_later.false)); size = search rules }
+pub returns-clause-value : goal.returns-clause-value
+returns-clause-value c = search (rules, min-is-minℤ)

@@ -1,7 +1,7 @@
 -- `values::wired` meets its contract. Assumes nothing.
 use Rattle.values.specs.Values.{wired-load, wired-is}
 use Rattle.columns.specs.Made.{fit-near}
-use native.Mathlib.Omega.{arith}
+use Rattle.std.proofs.Common.{arith}
 use Rattle.values.proofs.wired.Goals as goal
 
 pub together-load-requires : goal.together-load-requires

@@ -7,4 +7,4 @@ pub returns-then-answer-room : goal.returns-then-answer-room
 returns-then-answer-room c = called-short (area-short c.room.ensures c.if-answer-room.true) (c.short.ensures, refl)
 
 pub returns : goal.returns
-returns c = called (area-long c.room.ensures c.if-answer-room.false) (c.check_net-a.result, c.check_net-a.ensures, c.tell_checking.ensures)
+returns c = called (area-long c.room.ensures c.if-answer-room.false) (c.check_net.result, c.check_net.ensures, c.tell_checking.ensures)

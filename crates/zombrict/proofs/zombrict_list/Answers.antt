@@ -7,4 +7,4 @@ pub returns-then-answer-room : goal.returns-then-answer-room
 returns-then-answer-room c = called-short (area-short c.room.ensures c.if-answer-room.true) (c.short.ensures, refl)
 
 pub returns : goal.returns
-returns c = called (area-long c.room.ensures c.if-answer-room.false) (c.list_at-a.result, c.list_at-a.ensures, c.tell_listing.ensures)
+returns c = called (area-long c.room.ensures c.if-answer-room.false) (c.list_at-listed.result, c.list_at-listed.ensures, c.tell_listing.ensures)

@@ -9,4 +9,4 @@ pub returns-then-answer-room : goal.returns-then-answer-room
 returns-then-answer-room c = record { planned = called-short (area-short c.room.ensures c.if-answer-room.true) (c.short.ensures, refl); picked = numbered-picks _ _ _ (omega (arith, c.short.ensures)) }
 
 pub returns : goal.returns
-returns c = record { planned = called (area-long c.room.ensures c.if-answer-room.false) (c.plan_net-a.result, c.plan_net-a.ensures.planned, c.tell_planning.ensures); picked = λ z. c.plan_net-a.ensures.picked (sym c.tell_planning.ensures.number_is ∙ z) }
+returns c = record { planned = called (area-long c.room.ensures c.if-answer-room.false) (c.plan_net-planned.result, c.plan_net-planned.ensures.planned, c.tell_timing.ensures.planned); picked = λ z. c.plan_net-planned.ensures.picked (sym c.tell_timing.ensures.planned.number_is ∙ z) }

@@ -7,4 +7,4 @@ pub returns-then-answer-room : goal.returns-then-answer-room
 returns-then-answer-room c = called-short (area-short c.room.ensures c.if-answer-room.true) (c.short.ensures, refl)
 
 pub returns : goal.returns
-returns c = called (area-long c.room.ensures c.if-answer-room.false) (c.slack_of-a.result, c.slack_of-a.ensures, c.tell_slacking.ensures)
+returns c = called (area-long c.room.ensures c.if-answer-room.false) (c.slack_of.result, c.slack_of.ensures, c.tell_timing.ensures.given)

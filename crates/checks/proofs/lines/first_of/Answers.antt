@@ -1,5 +1,5 @@
 -- `checks::lines::first_of` meets its contract: the first test that holds decides. Assumes nothing.
-use mathlib.Core.Option.{or_else}
+use Rattle.std.proofs.Math.Option.{or_else}
 use Rattle.checks.proofs.lines.first_of.Goals as goal
 
 pub returns-then-form : goal.returns-then-form

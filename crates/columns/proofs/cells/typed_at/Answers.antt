@@ -1,8 +1,6 @@
 -- `columns::cells::typed_at` meets its contract. Assumes nothing.
-use mathlib.Core.Path.{ap, sym, ◌∙◌}
-use native.Mathlib.Omega.{arith}
+use Rattle.std.proofs.Common.{ap, sym, ◌∙◌, arith}
 use Rattle.laws.specs.Joining.{with_mark}
-use Rattle.units.proofs.Bits.{bits_back}
 use Rattle.columns.specs.Stores.{puts-as, puts-again}
 use Rattle.columns.specs.Run.{Candidate, run_at, run-put}
 use Rattle.columns.proofs.cells.typed_at.Goals as goal
@@ -12,4 +10,4 @@ returns c =
     let a = c.args in
     let p = ap (λ (x : Candidate). x.place) (run_at a.loads.now a.times.now a.words.now a.from (omega arith) (omega arith)) in
     let put = c.copy_words.ensures in
-    rw (bits_back a.time.0 (omega arith)) (run-put a.loads.now a.times.now a.words.now _ a.to a.input.0 a.time.0 _ (puts-as (puts-again put c.mark_words.ensures) (ap (with_mark a.k a.m) (put.here ∙ sym p))))
+    rw (c.put_pair.ensures.loads, c.put_pair.ensures.times) (run-put a.loads.now a.times.now a.words.now _ a.to a.input.0 a.time.0 _ (puts-as (puts-again put c.mark_words.ensures) (ap (with_mark a.k a.m) (put.here ∙ sym p))))

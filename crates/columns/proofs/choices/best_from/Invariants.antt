@@ -1,12 +1,7 @@
 -- `columns::choices::best_from` meets its contract. Assumes nothing.
-use mathlib.Core.Path.{◌≡◌}
-use Prim.Native.Nat.{◌+◌, ◌-◌}
-use lib.Signed.{mag}
+use Rattle.std.specs.Int.Signed.{mag}
 use Rattle.columns.specs.Choosing.{delay_of, Choosing}
 use Rattle.columns.proofs.choices.best_from.Given as goal
 
 abbrev pub invariant-loop-i : goal.invariant-loop-i
-invariant-loop-i l = (l.end ≡ l.at + l.n) × Choosing (delay_of (mag l.own.0) l.r.0) l.loads l.times l.at l.n l.best.at l.best.value.0 l.i
-
-abbrev pub decreases-loop-i : goal.decreases-loop-i
-decreases-loop-i l = l.at + l.n - l.i
+invariant-loop-i l = Choosing (delay_of (mag l.own.0) l.r.0) l.loads l.times l.at l.n l.best.at l.best.value.0 l.i

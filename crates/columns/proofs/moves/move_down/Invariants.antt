@@ -1,12 +1,7 @@
 -- `columns::moves::move_down` meets its contract. Assumes nothing.
-use Prim.Native.Nat.{◌-◌}
 use Rattle.columns.specs.Moving.{Lowering}
-use Rattle.columns.specs.Made.{Room, Sized}
 use Rattle.columns.specs.Run.{run}
 use Rattle.columns.proofs.moves.move_down.Given as goal
 
 abbrev pub invariant-loop-p : goal.invariant-loop-p
-invariant-loop-p l = Room l.initial.loads l.initial.times l.initial.words × Sized l.initial.loads l.initial.times l.initial.words l.loads l.times l.words × Lowering (run l.initial.loads l.initial.times l.initial.words) (run l.loads l.times l.words) l.from l.to l.k l.p
-
-abbrev pub decreases-loop-p : goal.decreases-loop-p
-decreases-loop-p l = l.k - l.p
+invariant-loop-p l = Lowering (run l.initial.loads l.initial.times l.initial.words) (run l.loads l.times l.words) l.from l.to l.k l.p

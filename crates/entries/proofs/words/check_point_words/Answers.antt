@@ -1,4 +1,5 @@
 -- `entries::words::check_point_words` meets its contract: a plain point has no pin and no required time. Assumes nothing.
+use Rattle.std.proofs.Common.{inl, inr}
 use Rattle.rules.specs.Entries.{point}
 use Rattle.entries.specs.Lines.{wire_of}
 use Rattle.entries.specs.EntryLaws.{bits-zero, bits-some, point_pin, point-time, point-row, form-refused, stated-checked}
@@ -7,12 +8,12 @@ use Rattle.entries.proofs.words.check_point_words.Goals as goal
 pub returns-then-pin-ne0 : goal.returns-then-pin-ne0
 returns-then-pin-ne0 c =
     let a = c.args in
-    form-refused a.rows.now a.n _ c.place_of-place.result c.place_of-place.ensures (point_pin a.w.parent a.w.resistance.0 a.w.capacitance.0 a.w.site a.pin a.due c.if-pin-ne0.true)
-
-pub returns-then-due-ne0 : goal.returns-then-due-ne0
-returns-then-due-ne0 c =
-    let a = c.args in
-    form-refused a.rows.now a.n _ c.place_of-place.result c.place_of-place.ensures (point-time a.w.parent a.w.resistance.0 a.w.capacitance.0 a.w.site a.pin a.due c.if-pin-ne0.false (bits-some a.due c.if-due-ne0.true))
+    let w = a.w in
+    form-refused a.rows.now a.n _ c.place_of.result c.place_of.ensures
+    (elim c.then-pin-ne0.either [
+      | inl p ↦ point_pin w.parent w.resistance.0 w.capacitance.0 w.site a.pin a.due p
+      | inr q ↦ point-time w.parent w.resistance.0 w.capacitance.0 w.site a.pin a.due q.0 (bits-some a.due q.1)
+    ])
 
 pub returns : goal.returns
 unfolding wire_of

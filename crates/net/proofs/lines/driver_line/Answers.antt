@@ -23,4 +23,4 @@ returns c =
     let line = c.args.line.now in
     let E = driver_line (fields_from line 2) in
     let s1 = read_number E driver₁ line 2 c.number_at.result c.in-Number.resistance c.in-Number.at (driver_is (fields_from line 2)) c.number_at.ensures c.in-Number.is in
-    driver-made c.args.place E s1.0 c.in-Number.resistance c.word_of-ohms.result (read-end E (driver s1.0) line c.in-Number.at s1.2 c.if-at-line.false) s1.1 c.word_of-ohms.ensures
+    driver-made c.args.place E s1.0 c.in-Number.resistance c.word_of.result (read-end E (driver s1.0) line c.in-Number.at s1.2 c.if-at-line.false) s1.1 c.word_of.ensures

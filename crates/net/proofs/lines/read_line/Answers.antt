@@ -1,19 +1,19 @@
 -- `net::lines::read_line` meets its contract: the letter says which reader's answer it is. Assumes nothing.
-use mathlib.Core.Path.{refl}
+use Rattle.std.proofs.Common.{refl, arith}
 use Rattle.net.specs.LineLaws.{read-type, read-driver, read-point, read-sink, read_none}
 use Rattle.net.proofs.lines.read_line.Goals as goal
 
-pub returns-then-letter-eq84 : goal.returns-then-letter-eq84
-returns-then-letter-eq84 c = read-type c.args.place c.args.line.now c.letter_of-letter.result c.type_line.result c.letter_of-letter.ensures c.if-letter-eq84.true c.type_line.ensures
+pub returns-in-84 : goal.returns-in-84
+returns-in-84 c = read-type c.args.place c.args.line.now c.letter_of.result c.type_line.result c.letter_of.ensures (omega arith) c.type_line.ensures
 
-pub returns-then-letter-eq68 : goal.returns-then-letter-eq68
-returns-then-letter-eq68 c = read-driver c.args.place c.args.line.now c.letter_of-letter.result c.driver_line.result c.letter_of-letter.ensures c.if-letter-eq68.true c.driver_line.ensures
+pub returns-in-68 : goal.returns-in-68
+returns-in-68 c = read-driver c.args.place c.args.line.now c.letter_of.result c.driver_line.result c.letter_of.ensures (omega arith) c.driver_line.ensures
 
-pub returns-then-letter-eq87 : goal.returns-then-letter-eq87
-returns-then-letter-eq87 c = read-point c.args.place c.args.line.now c.letter_of-letter.result c.point_line.result c.letter_of-letter.ensures c.if-letter-eq87.true c.point_line.ensures
+pub returns-in-87 : goal.returns-in-87
+returns-in-87 c = read-point c.args.place c.args.line.now c.letter_of.result c.point_line.result c.letter_of.ensures (omega arith) c.point_line.ensures
 
-pub returns-then-letter-eq83 : goal.returns-then-letter-eq83
-returns-then-letter-eq83 c = read-sink c.args.place c.args.line.now c.letter_of-letter.result c.sink_line.result c.letter_of-letter.ensures c.if-letter-eq83.true c.sink_line.ensures
+pub returns-in-83 : goal.returns-in-83
+returns-in-83 c = read-sink c.args.place c.args.line.now c.letter_of.result c.sink_line.result c.letter_of.ensures (omega arith) c.sink_line.ensures
 
-pub returns : goal.returns
-returns c = read_none c.args.place c.args.line.now c.letter_of-letter.result _ c.letter_of-letter.ensures c.if-letter-eq84.false c.if-letter-eq68.false c.if-letter-eq87.false c.if-letter-eq83.false refl
+pub returns-in_default : goal.returns-in_default
+returns-in_default c = read_none c.args.place c.args.line.now c.letter_of.result _ c.letter_of.ensures (λ e. omega arith) (λ e. omega arith) (λ e. omega arith) (λ e. omega arith) refl

@@ -1,11 +1,8 @@
 -- `runs::passes::sweep` meets its contract. Assumes nothing.
-use native.Mathlib.Omega.{arith}
+use Rattle.std.proofs.Common.{arith}
 use Rattle.runs.specs.Passes.{none}
 use Rattle.runs.specs.Sweeps.{took-less, safe-ready, safe-took, swept-took}
 use Rattle.runs.proofs.passes.sweep.Goals as goal
-
-pub loop-p-init : goal.loop-p-init
-loop-p-init c = (c.requires, λ q w s. s)
 
 pub turn_at-p-requires : goal.turn_at-p-requires
 turn_at-p-requires c = safe-ready c.loop-p.invariant.0 c.loop-p-test.true

@@ -1,8 +1,6 @@
 -- `walks::steps::deepest` meets its contract. The loop's invariant: the row is on the way down, and c is the last below it. The measure is the
 -- rows after it. Assumes nothing.
-use mathlib.Core.Path.{◌≡◌}
-use Prim.Native.Nat.{◌-◌, ◌<◌}
-use lib.ListN.{get_or}
+use Rattle.std.proofs.Common.{◌≡◌, ◌-◌, ◌<◌, get_or}
 use Rattle.walks.specs.Spine.{Spine}
 use Rattle.walks.proofs.steps.deepest.Given as goal
 

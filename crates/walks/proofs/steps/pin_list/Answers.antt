@@ -1,63 +1,53 @@
 -- `walks::steps::pin_list` meets its contract. Assumes nothing.
-use mathlib.Core.Path.{◌≡◌, refl}
-use mathlib.Core.Bool.{true, false}
-use Prim.Native.Nat.{◌+◌}
-use native.Mathlib.Omega.{arith}
-use lib.ListN.{get_or}
+use Rattle.std.proofs.Common.{◌≡◌, refl, true, false, arith}
 use Rattle.rules.specs.Quantities.{work_room}
-use Rattle.rooms.specs.Links.{sites_at}
-use Rattle.laws.specs.Tabled.{row_at}
 use Rattle.columns.specs.Made.{Room, room-run}
 use Rattle.columns.specs.Run.{run}
+use Rattle.walks.specs.Made.{row_of}
 use Rattle.walks.specs.Spine.{here}
-use Rattle.walks.specs.Steps.{sited-types, sited-stand, site-put, site-none, room-kept}
-use Rattle.walks.specs.Code.{typed, row-there, start_fits, started, driven-sited, site-made}
+use Rattle.walks.specs.Steps.{sited-types, sited-stand, site-put, site-none}
+use Rattle.walks.specs.Code.{typed, started, driven-sited, site-made}
 use Rattle.walks.proofs.steps.pin_list.Goals as goal
-
-pub start-requires : goal.start-requires
-start-requires c =
-    let a = c.args in
-    record { row_there = row-there a.rows.now a.due.now a.types.now a.count a.n a.links.now c.requires.given a.row c.requires.row_lt_n.0; room = c.requires.room; at_lt_work_room = start_fits a.rows.now a.due.now a.types.now a.count a.n a.links.now c.requires.given a.row a.at c.requires.row_lt_n.0 c.requires.has_room a.row (here refl) }
 
 pub put_types-requires : goal.put_types-requires
 put_types-requires c =
     let a = c.args in
+    let net = a.net.now in
     let g = c.requires.given in
-    let h = c.requires.row_lt_n.0 in
+    let h = c.requires.row_lt_n in
     let room = c.requires.has_room in
-    let w = run a.loads.now a.times.now a.words.now in
-    let w₁ = run c.start.new.loads c.start.new.times c.start.new.words in
-    let r₁ : Room c.start.new.loads c.start.new.times c.start.new.words = room-kept _ _ _ c.requires.room c.loads-1.given c.times-1.given c.words-1.given in
-    let d = started a.rows.now a.due.now a.types.now a.count a.n a.links.now g a.row a.at h room a.row (here refl) w w₁ (room-run work_room c.requires.room (omega arith)) c.requires.row_lt_n.1 c.start.ensures in
-    let s = driven-sited a.rows.now a.due.now a.types.now a.count a.n a.links.now g a.row a.at h room a.row (here refl) w w₁ 1 d in
-    let e : (row_at a.rows.now a.due.now a.row).site ≡ true = rw (← c.row_at-x.ensures) c.if-x.true in
-    record { types_in = sited-types (typed a.rows.now a.due.now a.types.now a.count a.n a.links.now g); room = r₁; stand = sited-stand a.types.now a.count w₁ a.at 1 (get_or a.links.now (sites_at + a.row) 0) (row_at a.rows.now a.due.now a.row).site s; every_two = s.rising; k_lt_sites_room = (rw c.sites_before-k.ensures (s.number e), s.place) }
+    let d = started _ _ _ _ _ _ g a.row a.at h.0 room a.row (here refl) (run a.loads.now a.times.now a.words.now) _ (room-run work_room c.requires.room (omega arith)) h.1 c.start.ensures in
+    let s = driven-sited _ _ _ _ _ _ g a.row a.at h.0 room a.row (here refl) _ _ 1 d in
+    let e : (row_of net a.row).site ≡ true = rw (← c.row_at.ensures) c.if-row_at.true in
+    record {
+      types_in = sited-types (typed _ _ _ _ _ _ g);
+      room = record { loads = omega arith; times = omega arith; words = omega arith };
+      stand = sited-stand net.types.now _ _ _ _ _ _ s;
+      every_two = s.rising;
+      k_lt_sites_room = (rw c.sites_before-k.ensures (s.number e), s.place);
+    }
 
-pub returns-then-x : goal.returns-then-x
-returns-then-x c =
+pub returns-then-row_at : goal.returns-then-row_at
+returns-then-row_at c =
     let a = c.args in
+    let net = a.net.now in
     let g = c.requires.given in
-    let h = c.requires.row_lt_n.0 in
+    let h = c.requires.row_lt_n in
     let room = c.requires.has_room in
-    let w = run a.loads.now a.times.now a.words.now in
-    let w₁ = run c.start.new.loads c.start.new.times c.start.new.words in
-    let r₁ : Room c.start.new.loads c.start.new.times c.start.new.words = room-kept _ _ _ c.requires.room c.loads-1.given c.times-1.given c.words-1.given in
-    let d = started a.rows.now a.due.now a.types.now a.count a.n a.links.now g a.row a.at h room a.row (here refl) w w₁ (room-run work_room c.requires.room (omega arith)) c.requires.row_lt_n.1 c.start.ensures in
-    let s = driven-sited a.rows.now a.due.now a.types.now a.count a.n a.links.now g a.row a.at h room a.row (here refl) w w₁ 1 d in
-    let e : (row_at a.rows.now a.due.now a.row).site ≡ true = rw (← c.row_at-x.ensures) c.if-x.true in
-    let w₂ = run c.put_types.new.loads c.put_types.new.times c.put_types.new.words in
-    site-made a.rows.now a.due.now a.types.now a.count a.n a.links.now g a.row a.at h room a.row (here refl) w w₁ 1 d w₂ c.put_types.result (site-put a.types.now a.count w₁ a.at 1 (get_or a.links.now (sites_at + a.row) 0) (row_at a.rows.now a.due.now a.row).site s w₂ c.put_types.result e (rw c.sites_before-k.ensures at c.put_types.ensures))
+    let d = started _ _ _ _ _ _ g a.row a.at h.0 room a.row (here refl) (run a.loads.now a.times.now a.words.now) _ (room-run work_room c.requires.room (omega arith)) h.1 c.start.ensures in
+    let s = driven-sited _ _ _ _ _ _ g a.row a.at h.0 room a.row (here refl) _ _ 1 d in
+    let e : (row_of net a.row).site ≡ true = rw (← c.row_at.ensures) c.if-row_at.true in
+    site-made _ _ _ _ _ _ g a.row a.at h.0 room a.row (here refl) _ _ 1 d _ _ (site-put net.types.now _ _ _ _ _ _ s _ _ e (rw c.sites_before-k.ensures at c.put_types.ensures))
 
-pub returns : goal.returns
-returns c =
+pub returns-else-row_at : goal.returns-else-row_at
+returns-else-row_at c =
     let a = c.args in
+    let net = a.net.now in
     let g = c.requires.given in
-    let h = c.requires.row_lt_n.0 in
+    let h = c.requires.row_lt_n in
     let room = c.requires.has_room in
-    let w = run a.loads.now a.times.now a.words.now in
-    let w₁ = run c.start.new.loads c.start.new.times c.start.new.words in
-    let r₁ : Room c.start.new.loads c.start.new.times c.start.new.words = room-kept _ _ _ c.requires.room c.loads-1.given c.times-1.given c.words-1.given in
-    let d = started a.rows.now a.due.now a.types.now a.count a.n a.links.now g a.row a.at h room a.row (here refl) w w₁ (room-run work_room c.requires.room (omega arith)) c.requires.row_lt_n.1 c.start.ensures in
-    let s = driven-sited a.rows.now a.due.now a.types.now a.count a.n a.links.now g a.row a.at h room a.row (here refl) w w₁ 1 d in
-    let e : (row_at a.rows.now a.due.now a.row).site ≡ false = rw (← c.row_at-x.ensures) c.if-x.false in
-    site-made a.rows.now a.due.now a.types.now a.count a.n a.links.now g a.row a.at h room a.row (here refl) w w₁ 1 d w₁ 1 (site-none a.types.now a.count w₁ a.at 1 (get_or a.links.now (sites_at + a.row) 0) (row_at a.rows.now a.due.now a.row).site s (room-run work_room r₁ (omega arith)) e)
+    let d = started _ _ _ _ _ _ g a.row a.at h.0 room a.row (here refl) (run a.loads.now a.times.now a.words.now) _ (room-run work_room c.requires.room (omega arith)) h.1 c.start.ensures in
+    let s = driven-sited _ _ _ _ _ _ g a.row a.at h.0 room a.row (here refl) _ _ 1 d in
+    let r : Room c.start.new.loads c.start.new.times c.start.new.words = record { loads = omega arith; times = omega arith; words = omega arith } in
+    let e : (row_of net a.row).site ≡ false = rw (← c.row_at.ensures) c.if-row_at.false in
+    site-made _ _ _ _ _ _ g a.row a.at h.0 room a.row (here refl) _ _ 1 d _ _ (site-none net.types.now _ _ _ _ _ _ s (room-run work_room r (omega arith)) e)

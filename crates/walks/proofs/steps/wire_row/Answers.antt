@@ -1,13 +1,10 @@
 -- `walks::steps::wire_row` meets its contract. Assumes nothing.
 use Rattle.rules.specs.Net.{wire_of}
-use Rattle.walks.specs.Steps.{wired-stand}
 use Rattle.walks.proofs.steps.wire_row.Goals as goal
 
-pub wire_list-requires : goal.wire_list-requires
+pub wire_list-requires-clause-all : goal.wire_list-requires-clause-all
 unfolding wire_of
-wire_list-requires c =
-    let e = c.row_at-x.ensures in
-    record { room = c.requires.room; stand = wired-stand c.requires.wired; r_le_most_ohms = rw e c.requires.row_bound; all = rw e c.requires.wired.behind_fit }
+wire_list-requires-clause-all c = rw c.row_at-x.ensures c.requires.wired.behind_fit
 
 pub returns : goal.returns
 unfolding wire_of

@@ -1,9 +1,14 @@
 -- `zombrict::texts::list_read` meets its contract: a refusal of the text is handed on, else the entry is called with the counts that were read. Assumes nothing.
+use Rattle.std.proofs.Common.{refl}
+use Rattle.std.proofs.lemmas.Result.{err_from_is_err_and}
 use Rattle.zombrict.specs.TextLaws.{list-refused, list_read}
 use Rattle.zombrict.proofs.texts.list_read.Goals as goal
 
-pub returns-in-Refused : goal.returns-in-Refused
-returns-in-Refused c = list-refused _ _ _ c.in-Refused.is
+pub returns-in_err-n : goal.returns-in_err-n
+returns-in_err-n c =
+    let p = err_from_is_err_and c.from_residual.result c.from_residual.ensures.1 in
+    rw (p.1, p.2)
+    (list-refused _ _ _ c.in_err-n.was)
 
-pub returns-in-Read : goal.returns-in-Read
-returns-in-Read c = list_read _ _ _ _ _ _ c.in-Read.is c.count.ensures c.count-in-Read.ensures c.list_at.ensures
+pub returns : goal.returns
+returns c = list_read _ _ _ _ _ _ c.in_ok-n.was refl refl c.list_at.ensures

@@ -8,4 +8,4 @@ pub returns-then-answer-room : goal.returns-then-answer-room
 returns-then-answer-room c = called-short (area-short c.room.ensures c.if-answer-room.true) (c.short.ensures, refl)
 
 pub returns : goal.returns
-returns c = called (area-long c.room.ensures c.if-answer-room.false) (c.read_net-a.result, count-on-text _ _ _ c.read_net-a.ensures, c.tell_reading.ensures)
+returns c = called (area-long c.room.ensures c.if-answer-room.false) (c.read_net-read.result, count-on-text _ _ _ c.read_net-read.ensures, c.tell_reading.ensures)

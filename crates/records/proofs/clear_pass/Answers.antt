@@ -1,5 +1,0 @@
--- `records::clear_pass` meets its contract. Assumes nothing.
-use Rattle.records.proofs.clear_pass.Goals as goal
-
-pub returns : goal.returns
-returns c = rw (← c.blank-none.ensures) c.pass_at.ensures

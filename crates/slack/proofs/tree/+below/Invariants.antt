@@ -1,7 +1,0 @@
--- What falls as `slack::tree::below` calls itself: 256 less the row's number. Assumes nothing.
-use Prim.Native.Nat.{◌-◌}
-use Rattle.rules.specs.Quantities.{rows_room}
-use Rattle.slack.proofs.tree.+below.Given as goal
-
-abbrev pub decreases-below : goal.decreases-below
-decreases-below l = rows_room - l.c
