@@ -3,11 +3,11 @@ ghost use Rattle.std.specs.Prelude.{◌≡◌, true};
 ghost use Rattle.rules.specs.Placements.{marks};
 ghost use Rattle.slack.specs.Hung.{mark_hung, site_hung, Siting, table_types};
 
+use pairs::Pair;
 use rules::Net;
-use upward::Seen;
 
 // With the repeater that site k is marked with, if there is one.
-fn marked(net: &Net<'_>, words: &[u64], k: usize, h: Option<Seen>) -> Option<Seen>
+fn marked(net: &Net<'_>, words: &[u64], k: usize, h: Option<Pair>) -> Option<Pair>
     requires { Siting net.now.types.now words.now k h }
     ensures { result ≡ mark_hung (table_types net.now.types.now) (marks words.now k) h }
 {
@@ -18,7 +18,7 @@ fn marked(net: &Net<'_>, words: &[u64], k: usize, h: Option<Seen>) -> Option<See
 }
 
 // With the repeater of a row's site, if it has one: site k.
-pub fn sited(net: &Net<'_>, words: &[u64], site: bool, k: usize, h: Option<Seen>) -> Option<Seen>
+pub fn sited(net: &Net<'_>, words: &[u64], site: bool, k: usize, h: Option<Pair>) -> Option<Pair>
     requires { site ≡ true → Siting net.now.types.now words.now k h }
     ensures { result ≡ site_hung (table_types net.now.types.now) site (marks words.now k) h }
 {

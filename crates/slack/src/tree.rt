@@ -4,9 +4,9 @@ ghost use Rattle.std.specs.Prelude.{◌≡◌, ◌≤◌, ◌<◌, get_or};
 ghost use Rattle.slack.specs.Walk.{ReadyIn, below_in, at_in, own_in};
 
 use super::steps::sited;
+use pairs::Pair;
 use rooms::links::LINKS_ROOM;
 use rules::Net;
-use upward::Seen;
 
 // A walk over a net's tree, for a placement: with the words of its marks, and where the rows below each row stand. That it is ready is a
 // clause of each step and no ghost field: it says by cases what is in its ranges, and a field would hold that truncated.
@@ -19,7 +19,7 @@ pub struct Walk<'a> {
 
 impl Walk<'_> {
     // What is at a row, from what hangs under it: its pin, or that, with the repeater of its site; its wire does not count.
-    fn seen(&self, row: usize, under: Option<Seen>) -> Option<Seen>
+    fn seen(&self, row: usize, under: Option<Pair>) -> Option<Pair>
         requires ready { ReadyIn self.now }
         requires row_lt_n { row < self.now.net.now.row_count }
         requires under_value { under ≡ below_in self.now (get_or self.now.links row 0) }
@@ -32,7 +32,7 @@ impl Walk<'_> {
     }
 
     // A row behind its wire, from what hangs under it.
-    fn wired(&self, row: usize, under: Option<Seen>) -> Option<Seen>
+    fn wired(&self, row: usize, under: Option<Pair>) -> Option<Pair>
         requires ready { ReadyIn self.now }
         requires le_row { (1 ≤ row) × (row < self.now.net.now.row_count) }
         requires under_value { under ≡ below_in self.now (get_or self.now.links row 0) }
@@ -45,7 +45,7 @@ impl Walk<'_> {
 
     // What hangs under the parent of row c among the rows from c on: row c behind its wire, beside the next row under the same parent and
     // those after it. The number past the last row ends them.
-    fn below(&self, c: usize) -> Option<Seen>
+    fn below(&self, c: usize) -> Option<Pair>
         requires ready { ReadyIn self.now }
         requires le_c { (1 ≤ c) × (c ≤ self.now.net.now.row_count) }
         ensures { result ≡ below_in self.now c }
@@ -62,7 +62,7 @@ impl Walk<'_> {
     }
 
     // What is at the driver: the whole tree.
-    pub fn at_driver(&self) -> Option<Seen>
+    pub fn at_driver(&self) -> Option<Pair>
         requires { ReadyIn self.now }
         ensures { result ≡ at_in self.now 0 }
     {

@@ -46,10 +46,7 @@ fn line(storage: &str, row: usize, listed: &Listed) {
         Err(r) => say!(" {}", Refused(r)),
         Ok(length) => {
             say!(" list {length} pairs");
-            let pairs = listed.loads.iter().zip(listed.times.iter());
-            for (load, time) in pairs.take(length as usize) {
-                say!(" {load} {time}");
-            }
+            writing::pairs(&listed.loads, &listed.times, length);
         }
     }
     say!("\n");

@@ -16,11 +16,11 @@ use Rattle.laws.specs.Ranges.{RepeaterInRange, most_load}
 use Rattle.repeaters.specs.declared.Buffer.{Buffer}
 use Rattle.repeaters.specs.Repeaters.{IsBuffer}
 use Rattle.units.specs.Times.{far_time}
-use Rattle.upward.specs.declared.Seen.{Seen}
+use Rattle.pairs.specs.declared.Pair.{Pair}
 
 -- what hangs somewhere: nothing, or a load and a time
 abbrev pub Hung : Type 0
-Hung = Option Seen
+Hung = Option Pair
 
 abbrev pub seen : Femtofarad → Femtosecond → Hung
 seen l t = Some (record { load = l; time = t })

@@ -75,10 +75,7 @@ fn say_listed(listed: Listed) {
         Err(r) => say_refused(r, left.kept),
         Ok(length) => {
             say!(" length {length} pairs");
-            let pairs = listed.loads.iter().zip(listed.times.iter());
-            for (load, time) in pairs.take(length as usize) {
-                say!(" {load} {time}");
-            }
+            writing::pairs(&listed.loads, &listed.times, length);
             say_left(left);
         }
     }

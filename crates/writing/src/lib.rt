@@ -37,6 +37,13 @@ macro_rules! say {
     };
 }
 
+// The first pairs of a list, load and time of each.
+pub fn pairs(loads: &[u32], times: &[i64], length: u32) {
+    for (load, time) in loads.iter().zip(times.iter()).take(length as usize) {
+        text(format_args!(" {load} {time}"));
+    }
+}
+
 // A refusal by its number and its place.
 #[derive(Clone, Copy)]
 pub struct Refused(pub Refusal);
