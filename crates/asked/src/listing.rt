@@ -8,7 +8,7 @@ use rules::{Net, Refusal};
 pub const LIST: usize = 300;
 
 // What list_at gave, and what it left: the length, and the areas of the list.
-#[derive(Drop)]
+#[derive(Clone, Copy)]
 pub struct Listed {
     pub answer: Result<u32, Refusal>,
     pub loads: [u32; LIST],
@@ -17,7 +17,7 @@ pub struct Listed {
 }
 
 // The same of loads_at.
-#[derive(Drop)]
+#[derive(Clone, Copy)]
 pub struct Loaded {
     pub answer: Result<u32, Refusal>,
     pub loads: [u32; LIST],

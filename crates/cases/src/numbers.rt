@@ -1,8 +1,6 @@
 // Numbers of a case: decimal, each ended by one byte, which is left to the reader of the line.
 ghost use Rattle.std.specs.Prelude.{◌+◌, ◌*◌, ◌^◌, ◌<◌, ◌≤◌, ◌-ℤ◌, pos, length, SomeIff, IfSome};
 
-use std::str;
-
 // The number that a text begins with, and what follows it: it has a digit, and fits 64 bits.
 pub fn number(s: &[u8]) -> Option<(u64, &[u8])>
     ensures { IfSome result (λ r. length r.1.now < length s.now) }
@@ -12,7 +10,16 @@ pub fn number(s: &[u8]) -> Option<(u64, &[u8])>
         .position(|b| !b.is_ascii_digit())
         .unwrap_or(s.len());
     let (digits, rest) = s.split_at(long);
-    let n = str::from_utf8(digits).ok()?.parse::<u64>().ok()?;
+    if digits.is_empty() {
+        return None;
+    }
+    // Each digit is looked at once more, and no text is made of them: the tables of a case are thousands of numbers.
+    let mut n = 0u64;
+    for b in digits {
+        n = n
+            .checked_mul(10)?
+            .checked_add(u64::from(b.wrapping_sub(b'0')))?;
+    }
     Some((n, rest))
 }
 

@@ -30,9 +30,13 @@ impl Setup {
     {
         let (bytes, after) = s.split_at_checked(long)?;
         let rest = after.strip_prefix(b"\n")?;
-        if !bytes.is_empty() {
-            for _ in 0..times {
-                self.text.add(bytes)?;
+        match bytes {
+            [] => {}
+            [byte] => self.text.add_repeated(*byte, times as usize)?,
+            _ => {
+                for _ in 0..times {
+                    self.text.add(bytes)?;
+                }
             }
         }
         Some(rest)

@@ -1,5 +1,5 @@
 // The text that a request reads, put together piece by piece in an area of fixed room.
-ghost use Rattle.std.specs.Prelude.{◌≡◌, ℕ, ◌+◌, ◌≤◌, ◌↔◌, List, [], ◌++◌, length, take, IsSome, IsNone, OnSome};
+ghost use Rattle.std.specs.Prelude.{◌≡◌, ℕ, ◌+◌, ◌≤◌, ◌↔◌, List, [], ◌++◌, length, take, replicate, IsSome, IsNone, OnSome};
 
 use std::marker::Model;
 
@@ -53,6 +53,21 @@ impl Text {
         }
         let end = self.long + bytes.len();
         self.bytes[self.long..end].copy_from_slice(bytes);
+        self.long = end;
+        Some(())
+    }
+
+    // A byte added at the end so many times, where there is room: most long texts are made of one byte.
+    pub fn add_repeated(&mut self, byte: u8, times: usize) -> Option<()>
+        ensures room { IsSome result ↔ (length self.old + times ≤ 40960) }
+        ensures added { OnSome result (self.new ≡ self.old ++ replicate times byte) }
+        ensures full { IsNone result → self.new ≡ self.old }
+    {
+        if TEXT_AREA - self.long < times {
+            return None;
+        }
+        let end = self.long + times;
+        self.bytes[self.long..end].fill(byte);
         self.long = end;
         Some(())
     }

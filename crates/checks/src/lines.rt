@@ -1,5 +1,5 @@
 // The checks of one line after those that have passed, shared by texts and tables: in one line 1, 2, 3, 4.
-ghost use Rattle.std.specs.Prelude.{◌≡◌, false, ◌+◌, ◌*◌, ◌≤◌, ◌<◌, ltb, leb, eqb, length, Ok};
+ghost use Rattle.std.specs.Prelude.{◌≡◌, false, ◌+◌, ◌*◌, ◌≤◌, ◌<◌, ltb, leb, eqb, length};
 ghost use Rattle.rules.specs.Tables.{words_a_row};
 ghost use Rattle.rules.specs.Quantities.{most_ohms, rows_room, types_room};
 ghost use Rattle.checks.specs.Checks.{checking, first_of, type_out, many_rows, no_parent_in, place_at, check_of, FewPassed};
@@ -82,12 +82,13 @@ pub fn check_row(rows: &[u32], n: Passed, w: Wire, out: bool) -> Result<(), Refu
     first_of(n.rows == 0, out, many, orphan, place_of(n))
 }
 
-// The first of 1, 2, 3, 4 that a line is refused for, after those that have passed and whose rows stand in `rows`.
-pub fn check_line(rows: &[u32], n: Passed, line: Line) -> Result<(), Refusal>
+// The first of 1, 2, 3, 4 that a line is refused for, after those that have passed and whose rows stand in `rows`. One that its reader refused
+// keeps that refusal.
+pub fn check_line(rows: &[u32], n: Passed, line: Result<Line, Refusal>) -> Result<(), Refusal>
     requires { FewPassed n × (words_a_row * n.rows ≤ length rows.now) }
-    ensures { result ≡ check_of rows.now n (Ok line) }
+    ensures { result ≡ check_of rows.now n line }
 {
-    match line {
+    match line? {
         Line::Repeater(t) => check_type(n, t),
         Line::Driver(o) => check_driver(n, o),
         Line::Point(w) => check_row(rows, n, w, wire_out(w)),

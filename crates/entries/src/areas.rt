@@ -1,5 +1,5 @@
 // Areas of words: an entry stored after those that have passed.
-ghost use Rattle.std.specs.Prelude.{◌≡◌, [], ◌∷◌, ◌++◌, ◌+◌, ◌*◌, ◌≤◌, ◌<◌, pos, length, take, Ok};
+ghost use Rattle.std.specs.Prelude.{◌≡◌, [], ◌∷◌, ◌++◌, ◌+◌, ◌*◌, ◌≤◌, ◌<◌, pos, length, take};
 ghost use Rattle.rules.specs.Tables.{words_a_type, words_a_row};
 ghost use Rattle.rules.specs.Quantities.{types_room, rows_room};
 ghost use Rattle.rooms.specs.Cap.{word_cap};
@@ -13,7 +13,7 @@ use rooms::words::{
     TYPE_RESISTANCE,
 };
 use rooms::{ROW_WORDS, TYPE_WORDS};
-use rules::{Femtofarad, Femtosecond, Ohm, Pin};
+use rules::{Femtofarad, Femtosecond, Ohm, Pin, Refusal};
 
 fn own_word(t: Femtosecond) -> u32
     requires { own_word t.0 < word_cap }
@@ -85,16 +85,23 @@ fn no_wire(resistance: Ohm) -> Wire
     }
 }
 
-// The line's entry, stored after those that have passed. The three areas are lent: a struct of three `&mut` would need a clause for each that it
-// is still the same.
-pub fn store_line(types: &mut [u32], rows: &mut [u32], due: &mut [i64], n: Passed, line: Line)
-    requires { Roomy n (Ok line) × ((words_a_type * types_room ≤ length types.old) × ((words_a_row * rows_room ≤ length rows.old) × (rows_room ≤ length due.old))) }
-    ensures { Grown n (Ok line) types.old types.new rows.old rows.new due.old due.new }
+// The line's entry, stored after those that have passed; a refused line has none, and the areas stay as they are. The three areas are lent: a
+// struct of three `&mut` would need a clause for each that it is still the same.
+pub fn store_line(
+    types: &mut [u32],
+    rows: &mut [u32],
+    due: &mut [i64],
+    n: Passed,
+    line: Result<Line, Refusal>,
+)
+    requires { Roomy n line × ((words_a_type * types_room ≤ length types.old) × ((words_a_row * rows_room ≤ length rows.old) × (rows_room ≤ length due.old))) }
+    ensures { Grown n line types.old types.new rows.old rows.new due.old due.new }
 {
     match line {
-        Line::Repeater(t) => store_type(types, n.types, t),
-        Line::Driver(o) => store_row(rows, due, n.rows, DRIVER, no_wire(o), no_pin()),
-        Line::Point(w) => store_row(rows, due, n.rows, POINT, w, no_pin()),
-        Line::Sink(w, p) => store_row(rows, due, n.rows, SINK, w, p),
+        Ok(Line::Repeater(t)) => store_type(types, n.types, t),
+        Ok(Line::Driver(o)) => store_row(rows, due, n.rows, DRIVER, no_wire(o), no_pin()),
+        Ok(Line::Point(w)) => store_row(rows, due, n.rows, POINT, w, no_pin()),
+        Ok(Line::Sink(w, p)) => store_row(rows, due, n.rows, SINK, w, p),
+        Err(_) => {}
     }
 }

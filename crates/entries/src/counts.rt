@@ -1,9 +1,10 @@
 // How many have passed, with one more.
-ghost use Rattle.std.specs.Prelude.{◌≡◌, Ok};
+ghost use Rattle.std.specs.Prelude.{◌≡◌};
 ghost use Rattle.entries.specs.Held.{with_row, counted_with};
 ghost use Rattle.checks.specs.Checks.{FewPassed};
 
 use checks::{Line, Passed};
+use rules::Refusal;
 
 // With a row, by its site word.
 pub fn with_row(n: Passed, site: u32) -> Passed
@@ -17,17 +18,18 @@ pub fn with_row(n: Passed, site: u32) -> Passed
     }
 }
 
-// With the line.
-pub fn passed_with(n: Passed, line: Line) -> Passed
+// With the line; one that is refused is not counted.
+pub fn passed_with(n: Passed, line: Result<Line, Refusal>) -> Passed
     requires { FewPassed n }
-    ensures { result ≡ counted_with n (Ok line) }
+    ensures { result ≡ counted_with n line }
 {
     match line {
-        Line::Repeater(_) => Passed {
+        Ok(Line::Repeater(_)) => Passed {
             types: n.types + 1,
             ..n
         },
-        Line::Driver(_) => with_row(n, 0),
-        Line::Point(w) | Line::Sink(w, _) => with_row(n, w.site),
+        Ok(Line::Driver(_)) => with_row(n, 0),
+        Ok(Line::Point(w) | Line::Sink(w, _)) => with_row(n, w.site),
+        Err(_) => n,
     }
 }

@@ -20,9 +20,9 @@ pub fn work(run: &mut [Cand], types: &[u32], job: Job) -> usize
 {
     let mut j = job;
     while j.step < j.steps {
-        let p = stages::begins::begin(types, &j);
+        let p = stages::begins::begin(types, j);
         let e = runs::passes::sweep(run, p);
-        stages::ends::end(types, &mut j, e);
+        j = stages::ends::end(types, j, e);
     }
     j.own
 }

@@ -31,7 +31,7 @@ pub fn take_types(types: &[u32], count: usize) -> Result<Passed, Refusal>
     for i in 0..count.min(TYPES_ROOM) {
         let t = type_at(types, i);
         check_type(n, t)?;
-        n = passed_with(n, Line::Repeater(t));
+        n = passed_with(n, Ok(Line::Repeater(t)));
     }
     if TYPES_ROOM < count {
         return Err(Refusal::Room(place_of(n)));

@@ -1,7 +1,7 @@
 -- What the planner's entries refuse: refusal 7 for their own areas, what the check of the tables refused, and 8. Assumes nothing.
 use Rattle.std.specs.Prelude.{◌≡◌, Bool, true, false, cond, ◌||◌, List, ℕ, ◌≤◌, ◌<◌, leb, ltb, ℤ, length, Result, Ok, Err}
 use Rattle.std.proofs.Math.Path.{refl}
-use Rattle.std.proofs.Common.{sym, ap, arith, leb-false, le-leb}
+use Rattle.std.proofs.Common.{sym, ap, ◌∙◌, arith, leb-true, leb-false, le-leb}
 use Rattle.std.proofs.lemmas.Bool.{lt-leb}
 use Rattle.std.proofs.Math.Bool.{or-true, or-false}
 use Rattle.std.proofs.Math.Option.{Option, none, some, some-ne-none, or_else}
@@ -59,38 +59,6 @@ module _ (t : Tables) (n : Counts) (ls : List ℕ) (ts : List ℤ) (ws : List �
     unfolding LoadsPromise
     loads-refused lls r e = (unseen_times, list-refused lls unseen_times r (rw (or-false (ltb (length lls) list_room)) e))
 
--- ---- what a list is refused for, by value
--- 7, then what the check of the tables refused, then 8
-abbrev pub judged_by : Result (Unit {0}) Refusal → (own work : Bool) (n row : ℕ) → Result (Unit {0}) Refusal
-judged_by checked own work n row = cond own (Err Short) (cond work (Err Short) (asked checked (leb n row)))
-
-module _ (t : Tables) (n : Counts) (row : ℕ) (own work : Bool) (checked : Result (Unit {0}) Refusal) (p : CheckPromise (tabled t n) checked) where
-  -- that is the first refusal of the list
-  pub judged-stopped : (r : Refusal) → judged_by checked own work n.rows row ≡ Err r → list_refusal (own || work) (tabled t n) row ≡ some r
-  unfolding list_refusal or_else
-  judged-stopped r = go own work checked refl (leb n.rows row) refl
-    where
-      same : {s : Refusal} → ◌≡◌ {A = Result (Unit {0}) Refusal} (Err s) (Err r) → s ≡ r
-      same e = cc
-
-      go : (a b : Bool) (d : Result (Unit {0}) Refusal) → checked ≡ d → (beyond : Bool) → leb n.rows row ≡ beyond → cond a (Err Short) (cond b (Err Short) (asked d beyond)) ≡ Err r → or_else (net_refusal (a || b) (tabled t n)) (given_when (leb n.rows row) NoRow) ≡ some r
-      go true b d f c g e = rw (short-own t n) (ap some (same e))
-      go false true d f c g e = rw (short-own t n) (ap some (same e))
-      go false false (Err s) f c g e = rw (checked-stopped t n checked p s f) (ap some (same e))
-      go false false (Ok v) f true g e = rw (passed-own t n (checked-passed t n checked p f), g) (ap some (same e))
-      go false false (Ok v) f false g e = absurd (clash e)
-
-  -- and where there is none the areas have their room, the net is accepted, and the row is in it
-  pub judged-passed : judged_by checked own work n.rows row ≡ Ok tt → (own ≡ false) × ((work ≡ false) × (Passed t n × (row < n.rows)))
-  judged-passed = go own work checked refl (leb n.rows row) refl
-    where
-      go : (a b : Bool) (d : Result (Unit {0}) Refusal) → checked ≡ d → (beyond : Bool) → leb n.rows row ≡ beyond → cond a (Err Short) (cond b (Err Short) (asked d beyond)) ≡ Ok tt → (a ≡ false) × ((b ≡ false) × (Passed t n × (row < n.rows)))
-      go true b d f c g e = absurd (clash (sym e))
-      go false true d f c g e = absurd (clash (sym e))
-      go false false (Err s) f c g e = absurd (clash (sym e))
-      go false false (Ok v) f true g e = absurd (clash (sym e))
-      go false false (Ok v) f false g e = (refl, (refl, (checked-passed t n checked p f, leb-false n.rows row g)))
-
 -- ---- what the check of the tables says, also where an area of the entry's own is short
 module _ (t : Tables) (n : Counts) where
   -- nothing is refused: no area is short, and the net is accepted
@@ -125,3 +93,35 @@ module _ (t : Tables) (n : Counts) where
         go (some r) g b h e = absurd (some-ne-none r e)
         go none g true h e = absurd (some-ne-none NoRow e)
         go none g false h e = let (a, p) = none-passed short g in (a, p, leb-false n.rows row h)
+
+-- ---- what a list is refused for, by value
+-- 7, then what the check of the tables refused, then 8
+abbrev pub judged_by : Result (Unit {0}) Refusal → (own work : Bool) (n row : ℕ) → Result (Unit {0}) Refusal
+judged_by checked own work n row = cond own (Err Short) (cond work (Err Short) (asked checked (leb n row)))
+
+module _ (t : Tables) (n : Counts) (row : ℕ) (own work : Bool) (checked : Result (Unit {0}) Refusal) (p : CheckPromise (tabled t n) checked) where
+  -- that is the first refusal of the list
+  pub judged-stopped : (r : Refusal) → judged_by checked own work n.rows row ≡ Err r → list_refusal (own || work) (tabled t n) row ≡ some r
+  unfolding list_refusal or_else
+  judged-stopped r = go own work checked refl (leb n.rows row) refl
+    where
+      same : {s : Refusal} → ◌≡◌ {A = Result (Unit {0}) Refusal} (Err s) (Err r) → s ≡ r
+      same e = cc
+
+      go : (a b : Bool) (d : Result (Unit {0}) Refusal) → checked ≡ d → (beyond : Bool) → leb n.rows row ≡ beyond → cond a (Err Short) (cond b (Err Short) (asked d beyond)) ≡ Err r → or_else (net_refusal (a || b) (tabled t n)) (given_when (leb n.rows row) NoRow) ≡ some r
+      go true b d f c g e = rw (short-own t n) (ap some (same e))
+      go false true d f c g e = rw (short-own t n) (ap some (same e))
+      go false false (Err s) f c g e = row-stopped t n row false s (checked-stopped t n checked p s f) ∙ ap some (same e)
+      go false false (Ok v) f true g e = row-beyond t n row false (passed-own t n (checked-passed t n checked p f)) (leb-true n.rows row g) ∙ ap some (same e)
+      go false false (Ok v) f false g e = absurd (clash e)
+
+  -- and where there is none the areas have their room, the net is accepted, and the row is in it
+  pub judged-passed : judged_by checked own work n.rows row ≡ Ok tt → (own ≡ false) × ((work ≡ false) × (Passed t n × (row < n.rows)))
+  judged-passed = go own work checked refl (leb n.rows row) refl
+    where
+      go : (a b : Bool) (d : Result (Unit {0}) Refusal) → checked ≡ d → (beyond : Bool) → leb n.rows row ≡ beyond → cond a (Err Short) (cond b (Err Short) (asked d beyond)) ≡ Ok tt → (a ≡ false) × ((b ≡ false) × (Passed t n × (row < n.rows)))
+      go true b d f c g e = absurd (clash (sym e))
+      go false true d f c g e = absurd (clash (sym e))
+      go false false (Err s) f c g e = absurd (clash (sym e))
+      go false false (Ok v) f true g e = absurd (clash (sym e))
+      go false false (Ok v) f false g e = (refl, (refl, (checked-passed t n checked p f, leb-false n.rows row g)))

@@ -4,14 +4,14 @@
 
 ghost use Rattle.std.specs.Prelude.{◌≡◌, ◌≤◌, ◌<◌, length, Ok};
 ghost use Rattle.rules.specs.Quantities.{placement_room, list_room};
-ghost use Rattle.rules.specs.Promises.{PlanPromise, ListPromise, LoadsPromise, list_refusal, lent_net};
+ghost use Rattle.rules.specs.Promises.{PlanPromise, ListPromise, LoadsPromise, lent_net};
 ghost use Rattle.rules.specs.Areas.{columns, columns_of, lent_of, list_areas, loads_areas, plan_areas};
 ghost use Rattle.rules.specs.Tables.{net_tables, net_counts, table_entries};
 ghost use Rattle.rules.specs.Answers.{plan_figures};
 ghost use Rattle.laws.specs.Checked.{Passed};
 ghost use Rattle.laws.specs.Picked.{Picks, PickedOf};
 ghost use Rattle.columns.specs.Made.{Room};
-ghost use Rattle.checks.specs.Checks.{checking};
+ghost use Rattle.plan.specs.Refusing.{judged_by};
 
 use rooms::{WORDS_AREA, WORK_ROOM};
 use rules::{Net, Refusal, Timed};
@@ -56,12 +56,21 @@ pub fn plan_net(
     Ok(plan_accepted(net, placement, loads, times, words))
 }
 
-// What a list, or its loads alone, is refused for: 7 for an area that is lent comes first, and 8 last.
-fn judged(short: bool, net: &Net<'_>, row: usize) -> Result<(), Refusal>
-    ensures { result ≡ checking (list_refusal short (lent_net net.now) row) }
+// What a list, or its loads alone, is refused for, of a net that was checked: 7 for an area that is lent comes first, and 8 last.
+fn judged(
+    checked: Result<(), Refusal>,
+    own: bool,
+    work: bool,
+    n: usize,
+    row: usize,
+) -> Result<(), Refusal>
+    ensures { result ≡ judged_by checked own work n row }
 {
-    net::check_tables(short, net)?;
-    if net.row_count <= row {
+    if own || work {
+        return Err(Refusal::Short);
+    }
+    checked?;
+    if n <= row {
         return Err(Refusal::NoRow);
     }
     Ok(())
@@ -108,7 +117,7 @@ pub fn list_at(
 {
     let own = rooms::short_list(list_loads.len(), list_times.len());
     let work = rooms::short_work(loads.len(), times.len(), words.len());
-    judged(own | work, net, row)?;
+    judged(net::check_net(net), own, work, net.row_count, row)?;
     Ok(list_accepted(net, row, list_loads, list_times, loads, times, words))
 }
 
@@ -150,6 +159,6 @@ pub fn loads_at(
 {
     let own = rooms::short_area(list_loads.len());
     let work = rooms::short_work(loads.len(), times.len(), words.len());
-    judged(own | work, net, row)?;
+    judged(net::check_net(net), own, work, net.row_count, row)?;
     Ok(loads_accepted(net, row, list_loads, loads, times, words))
 }

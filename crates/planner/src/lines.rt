@@ -2,10 +2,10 @@
 use rooms::words::ROW_SITE;
 use rooms::{PLACEMENT_ROOM, ROW_WORDS, ROWS_AREA, SITES_ROOM};
 use rules::Timed;
-use writing::say;
+use writing::{Signed, say};
 
 pub fn print_figures(timed: Timed) {
-    say!("slack {}\n", timed.slack.0);
+    say!("slack {}\n", Signed(timed.slack.0));
     say!("load {}\n", timed.load.0);
 }
 

@@ -11,6 +11,14 @@ use writing::{Refused, say};
 // Standard input, as the system numbers it.
 const STDIN: i32 = 0;
 
+// Standard output, as the system numbers it.
+const STDOUT: i32 = 1;
+
+// A write that fails is passed over: what comes after it is tried all the same. std's own standard output would assume more contracts of C.
+fn stdout(bytes: &[u8]) {
+    io::write_all(STDOUT, bytes);
+}
+
 // The plan of a net, or why it is refused.
 fn plan(text: &[u8]) -> Result<(), Refusal> {
     let mut types = [0u32; TYPES_AREA];

@@ -64,3 +64,9 @@ pub record ListedIf (rows : List ℕ) (due : List ℤ) (types : List ℕ) (count
 -- of a net that is handed as one
 abbrev pub ListVerdictIn : Net → (row loads times work : ℕ) → Result (Unit {0}) Refusal → Type 0
 ListVerdictIn net row loads times work c = ListVerdict net.types.now net.rows.now net.due.now net.type_count net.row_count row loads times work c
+
+abbrev pub ListsIn : Net → (row : ℕ) (w : List Cand) (lls : List ℕ) (lts : List ℤ) → Type 0
+ListsIn net row w lls lts = ListsIf net.rows.now net.due.now net.types.now net.type_count net.row_count row w lls lts (Ok tt)
+
+abbrev pub ListedIn : Net → (row : ℕ) (w w' : List Cand) (lls lls' : List ℕ) (lts lts' : List ℤ) (len : ℕ) → Type 0
+ListedIn net row w w' lls lls' lts lts' len = ListedIf net.rows.now net.due.now net.types.now net.type_count net.row_count row w w' lls lls' lts lts' (Ok tt) len

@@ -1,7 +1,7 @@
 // Listing over a lent run of records: `list_records` keeps the promise that `list_at` keeps on columns.
 ghost use Rattle.rules.specs.Promises.{ListPromise, lent_net};
 ghost use Rattle.rules.specs.Areas.{records, lent_of, list_areas};
-ghost use Rattle.records.specs.Listings.{ListVerdictIn};
+ghost use Rattle.records.specs.Listings.{ListVerdictIn, ListsIn, ListedIn};
 
 use rules::{Cand, Net, Refusal};
 
@@ -25,6 +25,23 @@ pub fn judge_list(
     Ok(())
 }
 
+// The list at the row made, its pairs written to the lent areas, and the run left all zero.
+fn list_in(
+    run: &mut [Cand],
+    net: &Net<'_>,
+    row: usize,
+    loads: &mut [u32],
+    times: &mut [i64],
+) -> usize
+    requires { ListsIn net.now row run.old loads.old times.old }
+    ensures { ListedIn net.now row run.old run.new loads.old loads.new times.old times.new result }
+{
+    let len = sights::make(run, net, row);
+    copying::copy_pairs(run, loads, times, len);
+    crate::clear(run);
+    len
+}
+
 // The unbeaten pairs at a row, written to the lent areas; how many there are.
 pub fn list_records(
     net: &Net<'_>,
@@ -36,8 +53,6 @@ pub fn list_records(
     ensures { ListPromise records (lent_net net.now) row (list_areas (lent_of list_loads.old list_times.old) work.old) result (list_areas (lent_of list_loads.new list_times.new) work.new) }
 {
     judge_list(net, row, list_loads.len(), list_times.len(), work.len())?;
-    let len = sights::make(work, net, row);
-    copying::copy_pairs(work, list_loads, list_times, len);
-    crate::clear(work);
+    let len = list_in(work, net, row, list_loads, list_times);
     Ok(len as u32)
 }

@@ -5,7 +5,7 @@ use Rattle.slack.specs.declared.tree.Walk.{Walk}
 use Rattle.slack.specs.Ready.{Ready, hung_below, hung_at, hung_own}
 
 abbrev pub ReadyIn : Walk → Type 0
-ReadyIn w = Ready w.net.now.rows.now w.net.now.due.now w.net.now.types.now w.words.now w.links w.net.now.row_count
+ReadyIn w = Ready w.net.now.rows.now w.net.now.due.now w.net.now.types.now w.words.now w.links.now w.net.now.row_count
 
 abbrev pub below_in : Walk → (c : ℕ) → Hung
 below_in w c = hung_below w.net.now.rows.now w.net.now.due.now w.net.now.types.now w.words.now w.net.now.row_count c

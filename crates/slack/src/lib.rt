@@ -23,7 +23,12 @@ fn timing<'a>(net: &'a Net<'a>, words: &'a [u64]) -> Result<Timed, Refusal>
 {
     let mut links = [0; LINKS_ROOM];
     rows::link(net, &mut links);
-    let walk = Walk { net, words, links };
+    // Lent again: what a walk holds lives no longer than the walk.
+    let walk = Walk {
+        net: &*net,
+        words: &*words,
+        links: &links,
+    };
     let h = walk.at_driver();
     let driver = rows::row_at(net, 0);
     upward::slack_at(h, driver.resistance)

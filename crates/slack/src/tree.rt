@@ -10,11 +10,11 @@ use rules::Net;
 
 // A walk over a net's tree, for a placement: with the words of its marks, and where the rows below each row stand. That it is ready is a
 // clause of each step and no ghost field: it says by cases what is in its ranges, and a field would hold that truncated.
-#[derive(Drop)]
+#[derive(Clone, Copy)]
 pub struct Walk<'a> {
     pub net: &'a Net<'a>,
     pub words: &'a [u64],
-    pub links: [u16; LINKS_ROOM],
+    pub links: &'a [u16; LINKS_ROOM],
 }
 
 impl Walk<'_> {
@@ -22,11 +22,11 @@ impl Walk<'_> {
     fn seen(&self, row: usize, under: Option<Pair>) -> Option<Pair>
         requires ready { ReadyIn self.now }
         requires row_lt_n { row < self.now.net.now.row_count }
-        requires under_value { under ≡ below_in self.now (get_or self.now.links row 0) }
+        requires under_value { under ≡ below_in self.now (get_or self.now.links.now row 0) }
         ensures { result ≡ at_in self.now row }
     {
         let x = rows::row_at(self.net, row);
-        let k = rows::sites_before(&self.links, row);
+        let k = rows::sites_before(self.links, row);
         let driven = upward::started(x.kind, under);
         sited(self.net, self.words, x.site, k, driven)
     }
@@ -35,7 +35,7 @@ impl Walk<'_> {
     fn wired(&self, row: usize, under: Option<Pair>) -> Option<Pair>
         requires ready { ReadyIn self.now }
         requires le_row { (1 ≤ row) × (row < self.now.net.now.row_count) }
-        requires under_value { under ≡ below_in self.now (get_or self.now.links row 0) }
+        requires under_value { under ≡ below_in self.now (get_or self.now.links.now row 0) }
         ensures { result ≡ own_in self.now row }
     {
         let h = self.seen(row, under);
@@ -53,10 +53,10 @@ impl Walk<'_> {
         if self.net.row_count == c {
             return None;
         }
-        let first = rows::first_below(&self.links, c);
+        let first = rows::first_below(self.links, c);
         let under = self.below(first);
         let own = self.wired(c, under);
-        let next = rows::next_beside(&self.links, c);
+        let next = rows::next_beside(self.links, c);
         let later = self.below(next);
         upward::beside(own, later)
     }
@@ -66,7 +66,7 @@ impl Walk<'_> {
         requires { ReadyIn self.now }
         ensures { result ≡ at_in self.now 0 }
     {
-        let first = rows::first_below(&self.links, 0);
+        let first = rows::first_below(self.links, 0);
         let under = self.below(first);
         self.seen(0, under)
     }

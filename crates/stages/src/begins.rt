@@ -7,9 +7,9 @@ use turns::{Pass, Step};
 
 // The next pass. Unless it is said otherwise it goes over the row's own list.
 #[tactic(auto, unfolding(crate::specs::Stages::begin_of))]
-pub fn begin(types: &[u32], j: &Job) -> Pass
-    requires { Inside types.now j.now }
-    ensures { result ≡ begin_of types.now j.now }
+pub fn begin(types: &[u32], j: Job) -> Pass
+    requires { Inside types.now j }
+    ensures { result ≡ begin_of types.now j }
 {
     let at = j.low + j.later;
     let end = at + j.own;

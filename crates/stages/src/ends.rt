@@ -6,10 +6,11 @@ use turns::Pass;
 
 // What the pass has made of it.
 #[tactic(auto, unfolding(crate::specs::Stages::Ended))]
-pub fn end(types: &[u32], j: &mut Job, e: Pass)
-    requires { Inside types.now j.old × Ends j.old e }
-    ensures { Ended types.now j.old e j.new }
+pub fn end(types: &[u32], j: Job, e: Pass) -> Job
+    requires { Inside types.now j × Ends j e }
+    ensures { Ended types.now j e result }
 {
+    let mut j = j;
     let at = j.low + j.later;
     match crate::stage_of(j.step, j.count) {
         Stage::Pin => {
@@ -30,4 +31,5 @@ pub fn end(types: &[u32], j: &mut Job, e: Pass)
         Stage::Move => j.own = j.made,
     }
     j.step += 1;
+    j
 }

@@ -46,7 +46,7 @@ fn line(storage: &str, row: usize, listed: &Listed) {
         Err(r) => say!(" {}", Refused(r)),
         Ok(length) => {
             say!(" list {length} pairs");
-            writing::pairs(&listed.loads, &listed.times, length);
+            writing::pairs(crate::stdout, &listed.loads, &listed.times, length);
         }
     }
     say!("\n");

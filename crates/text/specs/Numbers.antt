@@ -118,6 +118,12 @@ number_digits [] h z = absurd (omega arith)
 number_digits (b ∷ []) h z = absurd (omega arith)
 number_digits (b ∷ c ∷ s) h z = rw (digits-first b (c ∷ s), first-digit b z)
 
+-- what does not begin with 0 is what its digits state
+pub number-plain : (s : List ℕ) → 0 < length s → (get_or s 0 0 ≡ 48 → ⊥) → number s ≡ more_digits 0 s
+number-plain [] h z = absurd (omega arith)
+number-plain (b ∷ []) h z = number-single (b ∷ []) refl
+number-plain (b ∷ c ∷ s) h z = number_digits (b ∷ c ∷ s) (omega arith) z
+
 -- a required time by its first byte
 pub signed-empty : (s : List ℕ) → length s ≡ 0 → signed s ≡ none
 unfolding signed
@@ -206,11 +212,15 @@ within-time (b ∷ s) at long g = by (signed (b ∷ s))
 pub small-made : (o : Option ℕ) (next : ℕ) (f : Field ℕ) → f ≡ field_of o next → Small f
 small-made o next f e = rw e (small-field o next)
 
+-- what is after the minus, as a slice of the part
+pub signed-rest : (s : List ℕ) (next : ℕ) → 0 < length s → get_or s 0 0 ≡ 45 → time_of (signed s) next ≡ negated (field_of (number (take (length s - 1) (drop 1 s))) next)
+signed-rest s next h m =
+    let whole : take (length s - 1) (drop 1 s) ≡ drop 1 s = take_all (length s - 1) (drop 1 s) (omega (arith, length-drop 1 s)) in
+    rw whole (signed-minus s next h m)
+
 pub minus-made : (s : List ℕ) (next : ℕ) (f : Field ℕ) (r : Field ℤ) → 0 < length s → get_or s 0 0 ≡ 45
     → f ≡ field_of (number (take (length s - 1) (drop 1 s))) next → r ≡ negated f → r ≡ time_of (signed s) next
-minus-made s next f r h m e g =
-    let whole : take (length s - 1) (drop 1 s) ≡ drop 1 s = take_all (length s - 1) (drop 1 s) (omega (arith, length-drop 1 s)) in
-    rw (signed-minus s next h m, ← whole, ← e) g
+minus-made s next f r h m e g = rw (signed-rest s next h m, ← e) g
 
 pub plain-made : (s : List ℕ) (next : ℕ) (f : Field ℕ) (r : Field ℤ) → 0 < length s → (get_or s 0 0 ≡ 45 → ⊥)
     → f ≡ field_of (number s) next → r ≡ kept f → r ≡ time_of (signed s) next

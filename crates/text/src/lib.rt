@@ -85,6 +85,7 @@ pub fn number_of(part: &[u8], next: usize) -> Field<u64>
 }
 
 // The time that a part states: a number, or a minus and a number that is not 0.
+#[tactic(auto, using(crate::proofs::Numbers::signs))]
 pub fn signed_of(part: &[u8], next: usize) -> Field<i64>
     ensures { result ≡ time_of (signed part.now) next }
 {

@@ -1,6 +1,6 @@
 -- How large delays, differences and the lesser of two times are, and a time less a delay as a difference. Assumes nothing.
 use Rattle.std.specs.Prelude.{◌≡◌, refl, Bool, true, false, not, cond, ℕ, zero, suc, ◌+◌, ◌*◌, ◌-◌, ◌≤◌, leb, ltb, ℤ, pos, negsuc, ◌-ℤ◌, ◌+ℤ◌}
-use Rattle.std.proofs.Common.{sym, arith, le_trans, mul-le-mul_right, mul-le-mul_left, ltb-true, ltb-false, le-leb}
+use Rattle.std.proofs.Common.{arith, le_trans, mul-le-mul_right, mul-le-mul_left, ltb-true, ltb-false, le-leb}
 use Rattle.std.specs.Int.Signed.{mag, lt_z, le_z}
 use Rattle.std.proofs.lemmas.Bool.{lt-leb}
 use Rattle.rules.specs.Quantities.{◌⊖◌, most_ohms, most_own}
@@ -64,11 +64,3 @@ minℤ-later a b e = rw (le_z_not_lt_z a b, e)
 pub minℤ-no-later : (a b : ℤ) → lt_z b a ≡ false → minℤ a b ≡ a
 unfolding minℤ
 minℤ-no-later a b e = rw (le_z_not_lt_z a b, e)
-
--- the library's lesser of two numbers is the lesser of two times
-pub min-is-minℤ : (a b : ℤ) → cond (lt_z b a) b a ≡ minℤ a b
-min-is-minℤ a b = by (lt_z b a) refl
-  where
-    by : (t : Bool) → lt_z b a ≡ t → cond t b a ≡ minℤ a b
-    by true e = sym (minℤ-later a b e)
-    by false e = sym (minℤ-no-later a b e)

@@ -40,7 +40,7 @@ pub fn earlier(a: Femtosecond, b: Femtosecond) -> Femtosecond
     ensures value { result.0 ≡ minℤ a.0 b.0 }
     ensures size { mag result.0 ≤ max (mag a.0) (mag b.0) }
 {
-    Femtosecond(a.0.min(b.0))
+    if is_later(a, b) { b } else { a }
 }
 
 // Loads beside each other, or a wire's capacitance and the load at its far end.

@@ -6,7 +6,7 @@ use cases::setup::Setup;
 use lending::work::Left;
 use rooms::PLACEMENT_ROOM;
 use rules::{Counted, Refusal, Timed};
-use writing::{Figures, Marks, Refused, say};
+use writing::{Figures, Marks, Refused, Signed, say};
 
 fn kept(good: bool) -> &'static str {
     if good { "kept" } else { "changed" }
@@ -37,7 +37,7 @@ fn read(setup: &mut Setup) {
     match answer {
         Err(r) => say_refused(r, kept_past),
         Ok(Counted { types, rows }) => {
-            let sum = tables.sum(counted).cast_signed();
+            let sum = Signed(tables.sum(counted).cast_signed());
             say!(" accepted {types} {rows} sum {sum} {}", kept(kept_past));
         }
     }
@@ -75,7 +75,7 @@ fn say_listed(listed: Listed) {
         Err(r) => say_refused(r, left.kept),
         Ok(length) => {
             say!(" length {length} pairs");
-            writing::pairs(&listed.loads, &listed.times, length);
+            writing::pairs(crate::stdout, &listed.loads, &listed.times, length);
             say_left(left);
         }
     }

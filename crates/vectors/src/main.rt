@@ -31,6 +31,14 @@ use writing::say;
 
 const INPUT_ROOM: usize = 262_144;
 
+// Standard output, as the system numbers it.
+const STDOUT: i32 = 1;
+
+// A write that fails is passed over: what comes after it is tried all the same. std's own standard output would assume more contracts of C.
+fn stdout(bytes: &[u8]) {
+    io::write_all(STDOUT, bytes);
+}
+
 // The requests in turn, up to the end of the input or to one that is malformed.
 fn run(input: &[u8]) -> Option<()> {
     let mut setup = Setup::new();
@@ -45,9 +53,9 @@ fn run(input: &[u8]) -> Option<()> {
             Request::Case(named) => name = named,
             Request::Set(setting) => rest = setup.set(setting, after)?,
             Request::Ask(question, line) => {
-                writing::bytes(name);
+                stdout(name);
                 say!(" ");
-                writing::bytes(line);
+                stdout(line);
                 say!(":");
                 asking::ask(question, &mut setup, &mut best);
                 say!("\n");

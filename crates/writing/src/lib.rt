@@ -1,46 +1,75 @@
-// What the programs write to standard output: text with values in it, a refusal by its number and place, figures and marks.
+// What the programs write, laid out: text with values in it, refusals, figures and marks. It is handed to a function of the program, which
+// writes it: the contract of writing is assumed in programs alone.
 #![tactic(auto)]
+
+ghost use Rattle.std.specs.Prelude.{Some};
+ghost use Rattle.std.specs.Fmt.{signed_decimal};
 
 use rooms::PLACEMENT_ROOM;
 use rules::{Refusal, Timed};
 use std::fmt;
-use std::fmt::Write;
+use std::fmt::{InlineText, Write};
 
-// Standard output, as the system numbers it.
-const STDOUT: i32 = 1;
+// The room of a line: text that fits it is handed on at once.
+const LINE_ROOM: usize = 256;
 
+// The function of a program that takes bytes to write.
 #[derive(Clone, Copy)]
-struct Stdout;
+struct Out {
+    put: fn(&[u8]),
+    ghost callable: { IsAlwaysCallable put },
+}
 
-// A write that fails is passed over: what comes after it is tried all the same. std's own standard output would assume more contracts of C.
-impl Write for Stdout {
+impl Write for Out {
     fn write_str(&mut self, s: &str) -> fmt::Result {
-        bytes(s.as_bytes());
+        (self.put)(s.as_bytes());
         Ok(())
     }
 }
 
-// Bytes as they are.
-pub fn bytes(s: &[u8]) {
-    io::write_all(STDOUT, s);
+// Text handed on: at once, or where it is longer than the room piece by piece.
+pub fn text(put: fn(&[u8]), text: impl fmt::Display + Drop)
+    requires { IsAlwaysCallable put }
+{
+    let mut line = InlineText::<LINE_ROOM>::new();
+    if write!(line, "{text}").is_ok() {
+        put(line.as_str().as_bytes());
+    } else {
+        let _ = write!(Out { put }, "{text}");
+    }
 }
 
-pub fn text(text: impl fmt::Display + Drop) {
-    let _ = write!(Stdout, "{text}");
-}
-
-// Text with values in it.
+// Text with values in it, to the program's function `stdout`.
 #[macro_export]
 macro_rules! say {
     ($($words:tt)*) => {
-        $crate::text(format_args!($($words)*))
+        $crate::text(crate::stdout, format_args!($($words)*))
     };
 }
 
+// A number that may be negative: its sign, and how far it is from zero.
+#[derive(Clone, Copy)]
+pub struct Signed(pub i64);
+
+impl fmt::Display for Signed {
+    ghost output = { λ s. Some (signed_decimal s.0) };
+
+    fn fmt<W: Write>(&self, f: &mut fmt::Formatter<W>) -> fmt::Result {
+        let far = signs::magnitude(self.0);
+        if self.0 < 0 {
+            write!(f, "-{far}")
+        } else {
+            write!(f, "{far}")
+        }
+    }
+}
+
 // The first pairs of a list, load and time of each.
-pub fn pairs(loads: &[u32], times: &[i64], length: u32) {
+pub fn pairs(put: fn(&[u8]), loads: &[u32], times: &[i64], length: u32)
+    requires { IsAlwaysCallable put }
+{
     for (load, time) in loads.iter().zip(times.iter()).take(length as usize) {
-        text(format_args!(" {load} {time}"));
+        text(put, format_args!(" {load} {}", Signed(*time)));
     }
 }
 
@@ -62,7 +91,7 @@ pub struct Figures(pub Timed);
 
 impl fmt::Display for Figures {
     fn fmt<W: Write>(&self, f: &mut fmt::Formatter<W>) -> fmt::Result {
-        let slack = self.0.slack.0;
+        let slack = Signed(self.0.slack.0);
         let load = self.0.load.0;
         write!(f, "slack {slack} load {load}")
     }

@@ -2,7 +2,7 @@
 use Rattle.std.proofs.Common.{refl, Ok, Err}
 use Rattle.std.proofs.lemmas.Result.{err_from_is_err_and}
 use Rattle.records.specs.Entries.{idle_pass}
-use Rattle.records.specs.Planning.{verdict-plans, plan-told, records-picks}
+use Rattle.records.specs.Planning.{verdict-plans, verdict-four, plan-told, records-picks}
 use Rattle.records.proofs.plan_records.Goals as goal
 
 -- ---- where something is refused nothing is stored
@@ -26,6 +26,12 @@ plan_in-best-requires c =
     let a = c.args in
     let n = a.net.now in
     verdict-plans n.types.now n.rows.now n.due.now n.type_count n.row_count a.placement.now a.work.now (Ok tt) c.in_ok-judge.ensures
+
+pub tell-requires : goal.tell-requires
+tell-requires c =
+    let a = c.args in
+    let n = a.net.now in
+    verdict-four n.types.now n.rows.now n.due.now n.type_count n.row_count a.placement.now a.work.now (Ok tt) c.in_ok-judge.ensures
 
 pub returns-clause-planned : goal.returns-clause-planned
 returns-clause-planned c =
