@@ -26,7 +26,8 @@ fn say_refused(r: Refusal, left: bool) {
 }
 
 // A text that was read: its counts, which the tables have from now on, and the sum over the words in use, which goes below zero where it
-// reaches the upper half.
+// reaches the upper half. By itself it leaves the other questions less stack to hold.
+#[inline(never)]
 fn read(setup: &mut Setup) {
     let answer = asked::tables::read(setup.text.as_slice(), &mut setup.tables);
     let tables = &mut setup.tables;

@@ -2,41 +2,71 @@
 // writes it: the contract of writing is assumed in programs alone.
 #![tactic(auto)]
 
-ghost use Rattle.std.specs.Prelude.{Some};
+ghost use Rattle.std.specs.Prelude.{◌≡◌, ◌≤◌, [], take, Some, IsOk};
 ghost use Rattle.std.specs.Fmt.{signed_decimal};
+ghost use Rattle.writing.specs.Waiting.{waits_after};
 
 use rooms::PLACEMENT_ROOM;
 use rules::{Refusal, Timed};
 use std::fmt;
-use std::fmt::{InlineText, Write};
+use std::fmt::Write;
 
 // The room of a line: text that fits it is handed on at once.
 const LINE_ROOM: usize = 256;
 
-// The function of a program that takes bytes to write.
-#[derive(Clone, Copy)]
-struct Out {
+// Text on its way to the function of a program that takes bytes to write: what is laid out waits in a line for what follows.
+#[derive(Drop)]
+struct Line {
     put: fn(&[u8]),
+    bytes: [u8; LINE_ROOM],
+    long: usize,
     ghost callable: { IsAlwaysCallable put },
+    ghost within: { long ≤ 256 },
 }
 
-impl Write for Out {
-    fn write_str(&mut self, s: &str) -> fmt::Result {
-        (self.put)(s.as_bytes());
+impl Line {
+    // What waits, handed on.
+    fn hand_on(&mut self)
+        ensures { take self.new.long self.new.bytes ≡ [] }
+    {
+        (self.put)(&self.bytes[..self.long]);
+        self.long = 0;
+    }
+}
+
+impl Write for Line {
+    // Every piece is taken: what has no room beside what waits comes after it. So what a value lays out is whole, also where the value
+    // looks at no answer, and a value is asked once. By itself it takes less stack than within each of its callers.
+    #[inline(never)]
+    fn write_str(&mut self, s: &str) -> fmt::Result
+        ensures taken { IsOk result }
+        ensures waits { take self.new.long self.new.bytes ≡ waits_after (take self.old.long self.old.bytes) s.now }
+    {
+        if LINE_ROOM - self.long < s.len() {
+            self.hand_on();
+        }
+        if LINE_ROOM < s.len() {
+            (self.put)(s.as_bytes());
+        } else {
+            let end = self.long + s.len();
+            self.bytes[self.long..end].copy_from_slice(s.as_bytes());
+            self.long = end;
+        }
         Ok(())
     }
 }
 
-// Text handed on: at once, or where it is longer than the room piece by piece.
+// Text handed on: at once, or where it is longer than a line in parts.
 pub fn text(put: fn(&[u8]), text: impl fmt::Display + Drop)
     requires { IsAlwaysCallable put }
 {
-    let mut line = InlineText::<LINE_ROOM>::new();
-    if write!(line, "{text}").is_ok() {
-        put(line.as_str().as_bytes());
-    } else {
-        let _ = write!(Out { put }, "{text}");
-    }
+    let mut line = Line {
+        put,
+        bytes: [0; LINE_ROOM],
+        long: 0,
+    };
+    let _ = write!(line, "{text}");
+    line.hand_on();
 }
 
 // Text with values in it, to the program's function `stdout`.
