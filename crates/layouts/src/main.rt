@@ -16,6 +16,7 @@ const LONG: &str =
 after all that waits when it is laid out, and before all that is laid out after it; so this text goes on and on, and says nothing that \
 matters, until at last it ends here";
 
+// A write that fails is passed over: what comes after it is tried all the same.
 fn stdout(bytes: &[u8]) {
     io::write_all(STDOUT, bytes);
 }

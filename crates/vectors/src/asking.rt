@@ -26,7 +26,7 @@ fn say_refused(r: Refusal, left: bool) {
 }
 
 // A text that was read: its counts, which the tables have from now on, and the sum over the words in use, which goes below zero where it
-// reaches the upper half. By itself it leaves the other questions less stack to hold.
+// reaches the upper half. Kept out of `ask`, or what it needs of the stack would be held for every other question too.
 #[inline(never)]
 fn read(setup: &mut Setup) {
     let answer = asked::tables::read(setup.text.as_slice(), &mut setup.tables);

@@ -36,7 +36,7 @@ impl Line {
 
 impl Write for Line {
     // Every piece is taken: what has no room beside what waits comes after it. So what a value lays out is whole, also where the value
-    // looks at no answer, and a value is asked once. By itself it takes less stack than within each of its callers.
+    // looks at no answer, and a value is asked once. Kept out of its callers, which then need less stack.
     #[inline(never)]
     fn write_str(&mut self, s: &str) -> fmt::Result
         ensures taken { IsOk result }
@@ -56,7 +56,7 @@ impl Write for Line {
     }
 }
 
-// Text handed on: at once, or where it is longer than a line in parts.
+// Text handed on: at once, or in parts where it is longer than a line.
 pub fn text(put: fn(&[u8]), text: impl fmt::Display + Drop)
     requires { IsAlwaysCallable put }
 {
